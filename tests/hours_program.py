@@ -79,8 +79,8 @@ def check_fault(row):
 
 def check_loose(row):
     """The domain of a text and its warnings, and the text as it is mended; or its fault."""
-    text = row["text"]
-    read, mended = told("hours", "--", text), told("mend", "hours", "--", text)
+    text, names = row["text"], ["--day-names", row["names"]] if row["names"] else []
+    read, mended = told("hours", *names, "--", text), told("mend", "hours", *names, "--", text)
     if row["fault"]:
         fault = (1, "", f"{NO_DOMAIN}{row['fault']}\n")
         expect((read.returncode, read.stdout, line_of(read, text)) == fault, f"{text!r}: {read}")
@@ -236,7 +236,7 @@ def main():
     worked, forms = list(row_texts()), list(form_texts())
     checks = [lambda row=row: check_text(row) for row in texts] + [lambda row=row: check_fault(row) for row in faults]
     checks += [lambda text=text: check_round(text) for text in worked + forms]
-    loose = [row for row in hours.rows_of("loose.csv") if not row["names"]]
+    loose = hours.rows_of("loose.csv")
     checks += [lambda row=row: check_loose(row) for row in loose]
     failed = 0
     with concurrent.futures.ThreadPoolExecutor(len(os.sched_getaffinity(0))) as pool:

@@ -5,9 +5,11 @@ use Rattle.clap.specs.Walk.{Row, first_of}
 use Rattle.gtdesk_plans.specs.Arguments.{Text}
 use Rattle.gtdesk_plans.specs.Commands.{words_of}
 use Rattle.gtdesk_plans.specs.Commands.Now.{vehicle_word, view_words}
+use Rattle.gtdesk_plans.specs.DayNames.{day_names_words}
 use Rattle.gtdesk_plans.specs.Given.{Give, Given}
 use Rattle.gtdesk_plans.specs.Plans.{AreRefused, AskFor, Asks, IsRefused, IsWordFault, IsWordless, KeepsWord}
 use Rattle.gtdesk_plans.specs.Refused.{IsKept, IsRefusedText, text_in, word_at, word_of}
+use Rattle.gtdesk_plans.specs.Rows.{text_of}
 use Rattle.gtdesk_plans.proofs.PlanFacts.{first_word, only_asked, planned_words}
 use Rattle.gtdesk_plans.specs.declared.forms.Form.{Form}
 use Rattle.gtdesk_plans.specs.declared.forms.Form.TheVariants as form
@@ -60,6 +62,11 @@ module _ (text : WordName → Text) where
 abbrev kept_as : Form → List Row → WordName → Text
 kept_as f rows n = word_of f n rows
 
+day_names_named : (f : Form) (rows : List Row) → kept_as f rows name.Names ≡ text_of (codes "day-names") rows
+    → AllNamed (kept_as f rows) (day_names_words rows)
+day_names_named f rows e =
+    given_named (kept_as f rows) (first_of (codes "day-names") rows) name.Names Reading.day_names e (λ t. refl)
+
 all_named : (f : Form) (rows : List Row) → AllNamed (kept_as f rows) (words_of f rows)
 all_named form.Now rows = (
   refl,
@@ -81,7 +88,7 @@ all_named form.Faults rows =
     (given_named (kept_as form.Faults rows) (first_of (codes "at") rows) name.Day Reading.day refl (λ t. refl))
 all_named form.Words rows =
     (refl, given_named (kept_as form.Words rows) (first_of (codes "lang") rows) name.Language Reading.language refl (λ t. refl))
-all_named form.Hours rows = tt
+all_named form.Hours rows = day_names_named form.Hours rows refl
 all_named form.HoursOf rows = (refl, tt)
 all_named form.Same rows = (
   refl,
@@ -104,7 +111,7 @@ all_named form.Diff rows = (refl, (refl, (refl, (refl, tt))))
 all_named form.Ask rows = tt
 all_named form.Records rows = tt
 all_named form.Mend rows = tt
-all_named form.MendHours rows = tt
+all_named form.MendHours rows = day_names_named form.MendHours rows refl
 all_named form.Picture rows = (refl, (refl, (refl, (refl, tt))))
 all_named form.PictureDomain rows = (refl, (refl, tt))
 

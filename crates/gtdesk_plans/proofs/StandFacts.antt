@@ -5,6 +5,7 @@ use Rattle.clap.specs.Walk.{Row, first_of}
 use Rattle.gtd_core.specs.declared.domain.Domain.{Domain}
 use Rattle.gtd_core.specs.declared.horizon.Horizon.{Horizon}
 use Rattle.gtd_core.specs.declared.second.Sec.{Sec}
+use Rattle.gtd_hours_loose_tokens.specs.declared.token.DayNames.{DayNames}
 use Rattle.gtd_mistakes.specs.declared.rule.Rule.{Rule}
 use Rattle.gtdesk_plans.specs.Arguments.{Text}
 use Rattle.gtd_phrases.specs.declared.phrase.Language.{Language}
@@ -12,13 +13,14 @@ use Rattle.gtdesk_plans.specs.Commands.{asks_of, words_of}
 use Rattle.gtdesk_plans.specs.Commands.Diff as diff
 use Rattle.gtdesk_plans.specs.Commands.Faults as faults
 use Rattle.gtdesk_plans.specs.Commands.Hours as hours
+use Rattle.gtdesk_plans.specs.Commands.Mend as mend
 use Rattle.gtdesk_plans.specs.Commands.Now as now
 use Rattle.gtdesk_plans.specs.Commands.Picture as picture
 use Rattle.gtdesk_plans.specs.Commands.Same as same
 use Rattle.gtdesk_plans.specs.Commands.Words as words
 use Rattle.gtdesk_words.specs.HoursWords.{HasDomain, IsHoursDomain}
 use Rattle.gtdesk_words.specs.Readings.{AllStand, Reading, Word, if_given, word_as}
-use Rattle.gtdesk_words.specs.Words.{AreRulesIn, IsDayIn, IsDayWord, IsFromWord, elements_in, language_for}
+use Rattle.gtdesk_words.specs.Words.{AreRulesIn, IsDayIn, IsDayWord, IsFromWord, day_names_for, elements_in, language_for}
 use Rattle.gtdesk_plans.specs.Rows.{text_of}
 use Rattle.gtdesk_plans.specs.declared.commands.diff.DiffPlan.{DiffPlan}
 use Rattle.gtdesk_plans.specs.declared.commands.faults.FaultsPlan.{FaultsPlan}
@@ -48,6 +50,11 @@ language_stands : (text : Option Text) (language : Language) → language_for te
     → AllStand (if_given text (λ t. word_as name.Language (Reading.language t)))
 language_stands None language e = tt
 language_stands (Some text) language e = (ap is_some e, tt)
+
+day_names_stand : (text : Option Text) (names : DayNames) → day_names_for text ≡ Some names
+    → AllStand (if_given text (λ t. word_as name.Names (Reading.day_names t)))
+day_names_stand None names e = tt
+day_names_stand (Some text) names e = (ap is_some e, tt)
 
 from_stands : (text : Option Text) (second : Sec) → IsFromWord text second
     → AllStand (if_given text (λ t. word_as name.Moment (Reading.moment t)))
@@ -116,7 +123,9 @@ all_stand form.Faults rows p h = let x = some_and (faults.plan_in p) (faults.IsP
 all_stand form.Words rows p h =
     let x = some_and (words.plan_in p) (words.IsPlan rows) h in
     (x.1.0.faultless, language_stands (first_of (codes "lang") rows) x.0.language x.1.1)
-all_stand form.Hours rows p h = tt
+all_stand form.Hours rows p h =
+    let x = some_and (hours.text_plan_in p) (hours.IsTextPlan rows) h in
+    day_names_stand (first_of (codes "day-names") rows) x.0.names x.1.2
 all_stand form.HoursOf rows p h = let x = some_and (hours.plan_in p) _ h in (x.1.faultless, tt)
 all_stand form.Same rows p h = let x = some_and (same.plan_in p) (same.IsPlan rows) h in same_stand rows x.0 x.1
 all_stand form.SameHours rows p h = let x = some_and (same.plan_in p) (same.IsHoursPlan rows) h in same_hours_stand rows x.0 x.1
@@ -125,7 +134,9 @@ all_stand form.Diff rows p h = let x = some_and (diff.plan_in p) (diff.IsPlan ro
 all_stand form.Ask rows p h = tt
 all_stand form.Records rows p h = tt
 all_stand form.Mend rows p h = tt
-all_stand form.MendHours rows p h = tt
+all_stand form.MendHours rows p h =
+    let x = some_and (mend.hours_plan_in p) (mend.IsHoursPlan rows) h in
+    day_names_stand (first_of (codes "day-names") rows) x.0.names x.1.1
 all_stand form.Picture rows p h =
     let x = some_and (picture.plan_in p) (picture.IsPlan rows) h in picture_stand rows x.0.subject x.1.1
 all_stand form.PictureDomain rows p h =

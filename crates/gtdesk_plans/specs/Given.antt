@@ -20,10 +20,11 @@ use Rattle.gtdesk_plans.specs.declared.forms.Misuse.TheVariants as misuse
 -- What is wrong with the words of a command that have no fault and do not give all that it takes, or more.
 abbrev pub told_of : Misuse → Text
 told_of misuse.TextOrDomain = codes "hours takes either TEXT or --of DOMAIN"
-told_of misuse.StrictDomain = codes "hours takes --strict with TEXT alone"
+told_of misuse.OptionsOfText = codes "hours takes --strict and --day-names with TEXT alone"
 told_of misuse.WordsOrFile = codes "same takes either FIRST and SECOND or --file FILE alone"
 told_of misuse.NoWarnings = codes "faults takes --allow and --at with --warn alone"
 told_of misuse.FileOrHours = codes "mend takes either FILE or hours TEXT"
+told_of misuse.NamesOfFile = codes "mend takes --day-names with hours TEXT alone"
 told_of misuse.MomentOrZone = codes "now takes FILE.. MOMENT VEHICLE, or FILE.. VEHICLE --zone NAME"
 told_of misuse.TwoForms = codes "now takes either --json or --table"
 told_of misuse.InputTwice = codes "standard input is given more than once"
@@ -65,11 +66,11 @@ faults_form rows =
     warned_form (is_given (codes "warn") rows) (has_value (codes "allow") rows) (has_value (codes "at") rows)
     (texts_of (codes "FILE") rows)
 
--- `hours` of a text or of a domain, of which one is given; a domain is not read strictly.
+-- `hours` of a text or of a domain, of which one is given; options of texts go with a text.
 abbrev pub hours_form : Bool → Bool → Bool → Result Form Misuse
-hours_form text domain strict =
+hours_form text domain options =
     if text then (if domain then Err misuse.TextOrDomain else Ok form.Hours)
-    else if domain then (if strict then Err misuse.StrictDomain else Ok form.HoursOf)
+    else if domain then (if options then Err misuse.OptionsOfText else Ok form.HoursOf)
     else Err misuse.TextOrDomain
 
 -- `same` of two words, of domains or of opening hours; or of files, which stand alone.
@@ -87,12 +88,15 @@ same_form rows =
     (texts_of (codes "file") rows)
     else pair_form (is_given (codes "hours") rows) (has_value (codes "SECOND") rows)
 
--- `mend` of a file, or of a text behind the word `hours`.
+-- `mend` of a file, or of a text behind the word `hours`, with which an option of texts goes.
+abbrev pub file_form : Bool → Result Form Misuse
+file_form names = if names then Err misuse.NamesOfFile else Ok form.Mend
+
 abbrev pub mend_form : List Row → Result Form Misuse
 mend_form rows =
     if has_value (codes "TEXT") rows
     then (if bytes_eq (text_of (codes "FILE") rows) (codes "hours") then Ok form.MendHours else Err misuse.FileOrHours)
-    else Ok form.Mend
+    else file_form (has_value (codes "day-names") rows)
 
 -- The form of the command of a name, from what was found for it.
 abbrev pub form_in : Text × List Row → Result Form Misuse
@@ -101,7 +105,8 @@ form_in found =
     else if bytes_eq found.0 (codes "faults") then faults_form found.1
     else if bytes_eq found.0 (codes "words") then Ok form.Words
     else if bytes_eq found.0 (codes "hours")
-    then hours_form (has_value (codes "TEXT") found.1) (has_value (codes "of") found.1) (is_given (codes "strict") found.1)
+    then hours_form (has_value (codes "TEXT") found.1) (has_value (codes "of") found.1)
+    (is_given (codes "strict") found.1 || has_value (codes "day-names") found.1)
     else if bytes_eq found.0 (codes "same") then same_form found.1
     else if bytes_eq found.0 (codes "diff") then Ok form.Diff
     else if bytes_eq found.0 (codes "ask") then Ok form.Ask

@@ -1,5 +1,6 @@
 pub mod Arguments
 pub mod Rows
+pub mod DayNames
 pub mod Commands
 pub mod CommandLine
 pub mod Hints

@@ -84,5 +84,5 @@ plan_at p moment = one.Now (record { files = p.files; moment = moment; view = p.
 -- The text of opening hours that a plan reads when it is carried out; nothing, if it reads none.
 abbrev pub hours_text_of : OnePlan → Text
 hours_text_of (one.DomainOf p) = string_bytes p.text
-hours_text_of (one.MendHours given) = string_bytes given
+hours_text_of (one.MendHours p) = string_bytes p.text
 hours_text_of other = []

@@ -63,6 +63,13 @@ pub(crate) const DOMAIN: Argument = Argument::Word {
     help: "The time domain",
 };
 
+/// The language of short names of weekdays.
+pub(crate) const DAY_NAMES: Argument = Argument::Option {
+    name: "day-names",
+    value: "NAMES",
+    help: "In which language Di, Do and So are weekdays: de",
+};
+
 /// The year of a picture.
 pub(crate) const YEAR: Argument = Argument::Word {
     name: "YEAR",

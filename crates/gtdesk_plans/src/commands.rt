@@ -14,6 +14,7 @@ pub(crate) mod words;
 pub use diff::DiffPlan;
 pub use faults::FaultsPlan;
 pub use hours::HoursPlan;
+pub use mend::MendHoursPlan;
 pub use now::{NowPlan, NowView, ZonePlan};
 pub use picture::{DomainPicturePlan, PicturePlan, PictureSubject};
 pub use same::SamePlan;

@@ -53,14 +53,16 @@ pub(crate) enum Form {
 pub(crate) enum Misuse {
     /// `hours` has both its word and its option of a domain, or neither.
     TextOrDomain,
-    /// `hours --strict` has no text.
-    StrictDomain,
+    /// `hours` has options of a text, and no text.
+    OptionsOfText,
     /// `same` has neither both its words nor its option of a file alone.
     WordsOrFile,
     /// `faults` has options of warnings, and is not asked for these.
     NoWarnings,
     /// `mend` has two words, of which the first is not `hours`.
     FileOrHours,
+    /// `mend` has the option of a text, and no text.
+    NamesOfFile,
     /// `now` has both a moment and a zone, or neither; or no file or vehicle type.
     MomentOrZone,
     /// `now` is to print two forms.
@@ -81,10 +83,11 @@ impl Misuse {
     {
         match self {
             Misuse::TextOrDomain => "hours takes either TEXT or --of DOMAIN",
-            Misuse::StrictDomain => "hours takes --strict with TEXT alone",
+            Misuse::OptionsOfText => "hours takes --strict and --day-names with TEXT alone",
             Misuse::WordsOrFile => "same takes either FIRST and SECOND or --file FILE alone",
             Misuse::NoWarnings => "faults takes --allow and --at with --warn alone",
             Misuse::FileOrHours => "mend takes either FILE or hours TEXT",
+            Misuse::NamesOfFile => "mend takes --day-names with hours TEXT alone",
             Misuse::MomentOrZone => {
                 "now takes FILE.. MOMENT VEHICLE, or FILE.. VEHICLE --zone NAME"
             }
@@ -188,9 +191,9 @@ fn faults_form(given: &ArgMatches<'_>) -> Result<Form, Misuse>
     form_with(Form::Faults, given, "FILE")
 }
 
-// The form of `hours`, by whether its text, its domain and its option are given.
-fn hours_form(text: bool, domain: bool, strict: bool) -> Result<Form, Misuse>
-    ensures { result ≡ spec.hours_form text domain strict }
+// The form of `hours`, by whether its text, its domain and options of the text are given.
+fn hours_form(text: bool, domain: bool, options: bool) -> Result<Form, Misuse>
+    ensures { result ≡ spec.hours_form text domain options }
 {
     if text {
         if domain {
@@ -199,8 +202,8 @@ fn hours_form(text: bool, domain: bool, strict: bool) -> Result<Form, Misuse>
             Ok(Form::Hours)
         }
     } else if domain {
-        if strict {
-            Err(Misuse::StrictDomain)
+        if options {
+            Err(Misuse::OptionsOfText)
         } else {
             Ok(Form::HoursOf)
         }
@@ -238,12 +241,23 @@ fn same_form(given: &ArgMatches<'_>) -> Result<Form, Misuse>
     form_with(Form::SameRows, given, "file")
 }
 
+// The form of `mend` of a file, by whether the option of a text is given.
+fn file_form(names: bool) -> Result<Form, Misuse>
+    ensures { result ≡ spec.file_form names }
+{
+    if names {
+        Err(Misuse::NamesOfFile)
+    } else {
+        Ok(Form::Mend)
+    }
+}
+
 // The form of `mend`.
 fn mend_form(given: &ArgMatches<'_>) -> Result<Form, Misuse>
     ensures { result ≡ spec.mend_form (rows_of (found_of given.now)) }
 {
     if !has_value(given, "TEXT") {
-        Ok(Form::Mend)
+        file_form(has_value(given, "day-names"))
     } else if text(given, "FILE") == "hours" {
         Ok(Form::MendHours)
     } else {
@@ -262,7 +276,7 @@ pub(crate) fn form_of(name: &str, given: &ArgMatches<'_>) -> Result<Form, Misuse
         "hours" => hours_form(
             has_value(given, "TEXT"),
             has_value(given, "of"),
-            is_given(given, "strict"),
+            is_given(given, "strict") || has_value(given, "day-names"),
         ),
         "same" => same_form(given),
         "diff" => Ok(Form::Diff),

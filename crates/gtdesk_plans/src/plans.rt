@@ -1,8 +1,8 @@
 //! What a command line asks for.
 
 use crate::commands::{
-    DiffPlan, DomainPicturePlan, FaultsPlan, HoursPlan, NowPlan, PicturePlan, SamePlan, WordsPlan,
-    ZonePlan,
+    DiffPlan, DomainPicturePlan, FaultsPlan, HoursPlan, MendHoursPlan, NowPlan, PicturePlan,
+    SamePlan, WordsPlan, ZonePlan,
 };
 use gtd_core::Domain;
 
@@ -44,8 +44,8 @@ pub enum OnePlan {
     Records(Vec<String>),
     /// To print the record file of this path, or `-` for standard input, with its faults mended.
     Mend(String),
-    /// To print the opening hours of this text as they are strictly written.
-    MendHours(String),
+    /// To print the opening hours of a text as they are strictly written.
+    MendHours(MendHoursPlan),
     /// To print this text: help, or the version.
     Show(String),
 }
@@ -86,7 +86,7 @@ impl OnePlan {
     {
         match self {
             OnePlan::DomainOf(plan) => plan.text.as_str(),
-            OnePlan::MendHours(text) => text.as_str(),
+            OnePlan::MendHours(plan) => plan.text.as_str(),
             _ => "",
         }
     }

@@ -73,6 +73,7 @@ fn word_of<'a>(form: Form, word: WordName, given: &ArgMatches<'a>) -> &'a str
         WordName::From => text(given, "FROM"),
         WordName::To => text(given, "TO"),
         WordName::Language => text(given, "lang"),
+        WordName::Names => text(given, "day-names"),
         WordName::Rule => text(given, "allow"),
         WordName::Day => text(given, "at"),
         WordName::Zone => text(given, "zone"),

@@ -7,6 +7,7 @@ use Rattle.gtd_hours.specs.declared.hours.Hours.{Hours}
 use Rattle.gtd_hours_loose.specs.declared.reader.LooseFault.TheVariants as loose
 use Rattle.gtd_hours_loose.specs.declared.reader.LooseReadFault.{LooseReadFault}
 use Rattle.gtd_hours_loose.specs.declared.reader.LooseReadFault.TheVariants as reading
+use Rattle.gtd_hours_loose_tokens.specs.declared.token.DayNames.{DayNames}
 use Rattle.gtdesk_plans.specs.Arguments.{Text}
 use Rattle.gtdesk_tool.specs.LooseHours.{AreLines, IsRefusal, IsUnread, IsUntranslated, PutLines, PutsLoose, unread}
 use Rattle.gtdesk_tool.specs.Running.{PutText, RanHours, failures_after_read}
@@ -23,16 +24,16 @@ tells_unread n (reading.Fault (loose.Hours why)) = (refl, refl)
 tells_unread n (reading.Fault (loose.Ambiguous place)) = (refl, refl)
 tells_unread n reading.NoMemory = (refl, refl)
 
-pub of_unread : (text : Text) (n : ℕ) (r : RunRefusal) → IsUnread text r → TellsNone n r
-of_unread text n r is = subst (λ (x : RunRefusal). TellsNone n x) (sym is.2) (tells_unread n is.0)
+pub of_unread : (names : DayNames) (text : Text) (n : ℕ) (r : RunRefusal) → IsUnread names text r → TellsNone n r
+of_unread names text n r is = subst (λ (x : RunRefusal). TellsNone n x) (sym is.2) (tells_unread n is.0)
 
 of_untranslated : (hours : Hours) (n : ℕ) (r : RunRefusal) → IsUntranslated hours r → TellsNone n r
 of_untranslated hours n r (inl is) = subst (λ (x : RunRefusal). TellsNone n x) (sym is) (refl, refl)
 of_untranslated hours n r (inr is) = subst (λ (x : RunRefusal). TellsNone n x) (sym is.0) (refl, refl)
 
-pub of_refusal : (text : Text) (n : ℕ) (r : RunRefusal) → IsRefusal text r → TellsNone n r
-of_refusal text n r (inl is) = of_unread text n r is
-of_refusal text n r (inr is) = of_untranslated is.0.hours n r is.2
+pub of_refusal : (names : DayNames) (text : Text) (n : ℕ) (r : RunRefusal) → IsRefusal names text r → TellsNone n r
+of_refusal names text n r (inl is) = of_unread names text n r is
+of_refusal names text n r (inr is) = of_untranslated is.0.hours n r is.2
 
 -- ---- the line of a domain, and warnings
 
@@ -64,13 +65,13 @@ module _ (domain warnings : List ℕ) (old new : Option (List ℕ)) (ended : Boo
       let part = part_of text r is put.refused in
       record { whole = tt; refused = (part.0, part.1, untold) }
 
-  pub loose_put : (text : Text) (result : Result Ending RunRefusal) → AreLines text domain warnings
-      → PutLines domain warnings old new ended errors result → PutsLoose text old new ended errors result
-  loose_put text (Ok e) are put = record {
+  pub loose_put : (names : DayNames) (text : Text) (result : Result Ending RunRefusal) → AreLines names text domain warnings
+      → PutLines domain warnings old new ended errors result → PutsLoose names text old new ended errors result
+  loose_put names text (Ok e) are put = record {
     whole = (put.whole.0, (domain, warnings, are, put.whole.1, put.whole.3), put.whole.2);
     refused = tt;
   }
-  loose_put text (Err r) are put = record {
+  loose_put names text (Err r) are put = record {
     whole = tt;
     refused = (put.refused.2, inl (put.refused.0, (domain, warnings, are, put.refused.1)));
   }
@@ -79,26 +80,26 @@ keeps_same : (o : Option (List ℕ)) → Keeps o o
 keeps_same None = tt
 keeps_same (Some bytes) = refl
 
-pub loose_refused : (text : Text) (old : Option (List ℕ)) (ended : Bool) (told : Option (List ℕ)) (n : ℕ) (r : RunRefusal)
-    → IsRefusal text r → PutsLoose text old old ended (telling told told n n) (Err r)
-loose_refused text old ended told n r is =
+pub loose_refused : (names : DayNames) (text : Text) (old : Option (List ℕ)) (ended : Bool) (told : Option (List ℕ)) (n : ℕ)
+    (r : RunRefusal) → IsRefusal names text r → PutsLoose names text old old ended (telling told told n n) (Err r)
+loose_refused names text old ended told n r is =
     record { whole = tt; refused = ((keeps_same told, refl), inr (is, keeps_same old)) }
 
 -- ---- nothing is read
 
-module _ (text : Text) (old new : Option (List ℕ)) (ended : Bool) (errors : Telling) (n : ℕ) where
+module _ (names : DayNames) (text : Text) (old new : Option (List ℕ)) (ended : Bool) (errors : Telling) (n : ℕ) where
   unread_loose_part : (r : RunRefusal)
-      → ((r ≡ refusal.Write) × ((domain : List ℕ) × (warnings : List ℕ) × AreLines text domain warnings
-      × TookSome old new domain)) ⊎ (IsRefusal text r × Keeps old new) → n ≡ failures_after_read (Err r) n
+      → ((r ≡ refusal.Write) × ((domain : List ℕ) × (warnings : List ℕ) × AreLines names text domain warnings
+      × TookSome old new domain)) ⊎ (IsRefusal names text r × Keeps old new) → n ≡ failures_after_read (Err r) n
   unread_loose_part r (inl part) = sym (ap (λ (x : RunRefusal). failures_after_read (Err x) n) part.0)
-  unread_loose_part r (inr is) = (of_refusal text n r is.0).0
+  unread_loose_part r (inr is) = (of_refusal names text n r is.0).0
 
-  unread_loose : (result : Result Ending RunRefusal) → PutsLoose text old new ended errors result
+  unread_loose : (result : Result Ending RunRefusal) → PutsLoose names text old new ended errors result
       → n ≡ failures_after_read result n
   unread_loose (Ok e) put = refl
   unread_loose (Err r) put = unread_loose_part r put.refused.1
 
-  pub unread_hours : (strict : Bool) (result : Result Ending RunRefusal) → RanHours strict text old new ended errors result
+  pub unread_hours : (strict : Bool) (result : Result Ending RunRefusal) → RanHours strict names text old new ended errors result
       → n ≡ failures_after_read result n
   unread_hours true result ran = unread_text _ _ old new ended n (of_domain text n) result ran
   unread_hours false result ran = unread_loose result ran

@@ -1,4 +1,5 @@
--- What is printed for a text of opening hours that may be written loosely, and what is told of it.
+-- What is printed for a text of opening hours that may be written loosely, and what is told of it, where names of weekdays are
+-- these.
 use Rattle.std.specs.Prelude.{◌≡◌, ◌↔◌, ◌⊎◌, ◌++◌, ◌<◌, ℕ, ℤ, Bool, List, [], Option, Some, None, Result, IfErr}
 use Rattle.std.specs.Prelude.{IfOk, IsTrue, codes}
 use Rattle.std.specs.Io.KnownBytes.{Appends, Keeps}
@@ -17,7 +18,7 @@ use Rattle.gtd_hours_loose.specs.declared.reader.LooseHours.{LooseHours}
 use Rattle.gtd_hours_loose.specs.declared.reader.LooseReadFault.{LooseReadFault}
 use Rattle.gtd_hours_loose.specs.declared.reader.LooseReadFault.TheVariants as reading
 use Rattle.gtd_hours_loose.specs.declared.strict.StrictForm.{StrictForm}
-use Rattle.gtd_hours_loose_tokens.specs.declared.token.DayNames.TheVariants.{Unsaid}
+use Rattle.gtd_hours_loose_tokens.specs.declared.token.DayNames.{DayNames}
 use Rattle.gtd_hours_search.specs.Membership.{InDomain}
 use Rattle.gtd_text.specs.Canonical.{canonical}
 use Rattle.gtdesk_plans.specs.Arguments.{Text}
@@ -40,16 +41,16 @@ pub record Translates (hours : Hours) (line : List ℕ) : Type 0 where
   pub written : line ≡ canonical (domain_tree domain) ++ codes "\n"
 
 -- The lines of the domain of the hours that the text stands for, and of its warnings.
-pub record AreLines (text : Text) (domain warnings : List ℕ) : Type 0 where
+pub record AreLines (names : DayNames) (text : Text) (domain warnings : List ℕ) : Type 0 where
   pub read : LooseHours
-  pub reads : IsLooseReading Unsaid text read
+  pub reads : IsLooseReading names text read
   pub translates : Translates read.hours domain
   pub warns : warnings ≡ warnings_of text read.form
 
 -- The line of the hours that the text stands for, as they are strictly written.
-pub record IsMendedLine (text : Text) (line : List ℕ) : Type 0 where
+pub record IsMendedLine (names : DayNames) (text : Text) (line : List ℕ) : Type 0 where
   pub read : LooseHours
-  pub reads : IsLooseReading Unsaid text read
+  pub reads : IsLooseReading names text read
   pub written : line ≡ hours_text read.hours ++ codes "\n"
 
 -- The refusal of a text that is not read.
@@ -59,8 +60,8 @@ unread (reading.Fault (loose.Ambiguous place)) = refusal.NoDomain (none.Ambiguou
 unread reading.NoMemory = refusal.Memory
 
 -- The refusal gives the first fault of the text, or is of memory.
-abbrev pub IsUnread : Text → RunRefusal → Type 0
-IsUnread text r = (fault : LooseReadFault) × IsReadFault Unsaid text fault × (r ≡ unread fault)
+abbrev pub IsUnread : DayNames → Text → RunRefusal → Type 0
+IsUnread names text r = (fault : LooseReadFault) × IsReadFault names text fault × (r ≡ unread fault)
 
 -- The refusal is of memory, or the hours take too many basic domains.
 abbrev pub IsUntranslated : Hours → RunRefusal → Type 0
@@ -68,9 +69,9 @@ IsUntranslated hours r =
     (r ≡ refusal.Memory) ⊎ ((r ≡ refusal.NoDomain none.TooMany) × (most_basic_domains < hours_cost hours))
 
 -- Why there are no lines for a text.
-abbrev pub IsRefusal : Text → RunRefusal → Type 0
-IsRefusal text r =
-    IsUnread text r ⊎ ((read : LooseHours) × IsLooseReading Unsaid text read × IsUntranslated read.hours r)
+abbrev pub IsRefusal : DayNames → Text → RunRefusal → Type 0
+IsRefusal names text r =
+    IsUnread names text r ⊎ ((read : LooseHours) × IsLooseReading names text read × IsUntranslated read.hours r)
 
 -- The line of the domain was put whole, the output was ended, and the warnings were told. If the output failed, it had taken a
 -- first part of the line, and nothing was told.
@@ -80,9 +81,9 @@ pub record PutLines (domain warnings : List ℕ) (old new : Option (List ℕ)) (
   pub refused : IfErr result (λ r. (r ≡ refusal.Write) × TookSome old new domain × IsUntold errors)
 
 -- The same of the lines of a text. Any other refusal has its cause; then nothing was put or told.
-pub record PutsLoose (text : Text) (old new : Option (List ℕ)) (ended : Bool) (errors : Telling)
+pub record PutsLoose (names : DayNames) (text : Text) (old new : Option (List ℕ)) (ended : Bool) (errors : Telling)
     (result : Result Ending RunRefusal) : Type 0 where
-  pub whole : IfOk result (λ e. (e ≡ ending.Done) × ((domain : List ℕ) × (warnings : List ℕ) × AreLines text domain warnings
-      × Appends old new domain × Told errors warnings) × IsTrue ended)
+  pub whole : IfOk result (λ e. (e ≡ ending.Done) × ((domain : List ℕ) × (warnings : List ℕ)
+      × AreLines names text domain warnings × Appends old new domain × Told errors warnings) × IsTrue ended)
   pub refused : IfErr result (λ r. IsUntold errors × (((r ≡ refusal.Write) × ((domain : List ℕ) × (warnings : List ℕ)
-      × AreLines text domain warnings × TookSome old new domain)) ⊎ (IsRefusal text r × Keeps old new)))
+      × AreLines names text domain warnings × TookSome old new domain)) ⊎ (IsRefusal names text r × Keeps old new)))

@@ -32,6 +32,7 @@ use Rattle.gtd_hours_file.specs.Warnings.{IsWarned, lines_of}
 use Rattle.gtd_hours_file.specs.declared.translated.Translated.{Translated}
 use Rattle.gtd_hours_file.specs.declared.untranslated.Untranslated.{Untranslated}
 use Rattle.gtd_hours_file.specs.declared.untranslated.Untranslated.TheVariants as hours
+use Rattle.gtd_hours_loose_tokens.specs.declared.token.DayNames.{DayNames}
 use Rattle.gtd_now.specs.Now.{IsNowOf}
 use Rattle.gtd_now.specs.Query.{Query}
 use Rattle.gtd_now.specs.Run.{TellsVehicle, entries_of}
@@ -204,10 +205,11 @@ pub record RanRecords (path : List ℕ) (file old new : Option (List ℕ)) (sile
   pub whole : OnOk answer (IsTrue ended)
   pub endless : IsErrOf answer hours.Endless → IsTrue silent
 
--- What `hours` did for a text that is to be written strictly, or may be written loosely.
-abbrev pub RanHours : Bool → List ℕ → Option (List ℕ) → Option (List ℕ) → Bool → Telling → Result Ending RunRefusal → Type 0
-RanHours true text old new ended errors result = PutText (IsDomainLine text) (IsTextRefusal text) old new ended result
-RanHours false text old new ended errors result = PutsLoose text old new ended errors result
+-- What `hours` did for a text that is to be written strictly, or may be written loosely with these names of weekdays.
+abbrev pub RanHours : Bool → DayNames → List ℕ → Option (List ℕ) → Option (List ℕ) → Bool → Telling → Result Ending RunRefusal
+    → Type 0
+RanHours true names text old new ended errors result = PutText (IsDomainLine text) (IsTextRefusal text) old new ended result
+RanHours false names text old new ended errors result = PutsLoose names text old new ended errors result
 
 -- The plan puts nothing to the output for errors.
 abbrev pub IsQuiet : OnePlan → Type 0
@@ -250,7 +252,7 @@ HasRunPlan (plan.Words p) path file old new silent ended errors result =
 HasRunPlan (plan.HoursOf domain) path file old new silent ended errors result =
     PutText (IsHoursLine domain) IsHoursRefusal old new ended result
 HasRunPlan (plan.DomainOf p) path file old new silent ended errors result =
-    RanHours p.strict (string_bytes p.text) old new ended errors result
+    RanHours p.strict p.names (string_bytes p.text) old new ended errors result
 HasRunPlan (plan.Same p) path file old new silent ended errors result =
     HasCompared p.first p.second p.from.second.0 old new ended result
 HasRunPlan (plan.SameRows files) path file old new silent ended errors result =
@@ -259,8 +261,8 @@ HasRunPlan (plan.Records files) path file old new silent ended errors result =
     RanRecords path file old new silent ended errors result
 HasRunPlan (plan.Mend name) path file old new silent ended errors result =
     RanMended path file old new silent ended errors result
-HasRunPlan (plan.MendHours text) path file old new silent ended errors result =
-    PutText (IsMendedLine (string_bytes text)) (IsUnread (string_bytes text)) old new ended result
+HasRunPlan (plan.MendHours p) path file old new silent ended errors result =
+    PutText (IsMendedLine p.names (string_bytes p.text)) (IsUnread p.names (string_bytes p.text)) old new ended result
 HasRunPlan (plan.Show text) path file old new silent ended errors result =
     PutText (λ t. t ≡ string_bytes text) (λ r. ⊥) old new ended result
 

@@ -114,6 +114,7 @@ fn word_name(word: WordName) -> &'static str
         WordName::From => "FROM",
         WordName::To => "TO",
         WordName::Language => "LANGUAGE",
+        WordName::Names => "NAMES",
         WordName::Rule => "RULE",
         WordName::Day => "DAY",
         WordName::Zone => "ZONE",
@@ -143,6 +144,7 @@ impl Display for ReasonText {
             }
             Reason::Hours(why) => write!(f, "{}", TextLine(why)),
             Reason::Language => write!(f, "not en, de or fr"),
+            Reason::DayNames => write!(f, "not de"),
             Reason::Rule => write!(f, "{NO_RULES}"),
             Reason::Day => write!(f, "not from 1901-01-01 to 2699-12-31"),
             Reason::Zone => write!(f, "not the name of a time zone"),

@@ -2,7 +2,6 @@
 
 ghost use Rattle.std.specs.Prelude.{◌≡◌, ◌<◌, IfErr, IfOk, IsTrue, Some, string_bytes};
 ghost use Rattle.gtd_hours_loose.specs.Reading.{IsLooseReading};
-ghost use Rattle.gtd_hours_loose_tokens.specs.declared.token.DayNames.TheVariants.{Unsaid};
 ghost use Rattle.gtdesk_words.specs.HoursWords.{IsTranslation};
 ghost use Rattle.gtdesk_tool.specs.LooseHours as spec;
 ghost use Rattle.gtdesk_tool.specs.LooseHours.{AreLines, IsMendedLine, IsRefusal, IsUnread, IsUntranslated, PutLines, PutsLoose};
@@ -54,11 +53,11 @@ fn unread(fault: LooseReadFault) -> RunRefusal
 }
 
 // The hours that the text stands for, with its strict form if it is written loosely.
-fn read(alloc: Global, text: &str) -> Result<LooseHours, RunRefusal>
-    ensures read { IfOk result (IsLooseReading Unsaid text.now) }
-    ensures refused { IfErr result (IsUnread text.now) }
+fn read(alloc: Global, text: &str, names: DayNames) -> Result<LooseHours, RunRefusal>
+    ensures read { IfOk result (IsLooseReading names text.now) }
+    ensures refused { IfErr result (IsUnread names text.now) }
 {
-    match read_loose_hours(alloc, text.as_bytes(), DayNames::Unsaid) {
+    match read_loose_hours(alloc, text.as_bytes(), names) {
         Ok(read) => Ok(read),
         Err(fault) => Err(unread(fault)),
     }
@@ -111,11 +110,11 @@ fn domain_line(alloc: Global, hours: &Hours) -> Result<String, RunRefusal>
 }
 
 // The lines of the text.
-fn lines_of(alloc: Global, text: &str) -> Result<Lines, RunRefusal>
-    ensures lines { IfOk result (λ lines. AreLines text.now (string_bytes lines.domain) lines.warnings.items) }
-    ensures refused { IfErr result (IsRefusal text.now) }
+fn lines_of(alloc: Global, text: &str, names: DayNames) -> Result<Lines, RunRefusal>
+    ensures lines { IfOk result (λ lines. AreLines names text.now (string_bytes lines.domain) lines.warnings.items) }
+    ensures refused { IfErr result (IsRefusal names text.now) }
 {
-    let read = match read(alloc, text) {
+    let read = match read(alloc, text, names) {
         Ok(read) => read,
         Err(refusal) => return Err(refusal),
     };
@@ -159,15 +158,16 @@ fn print_loose<O: Output, E: Output>(
     output: &mut O,
     errors: &mut E,
     text: &str,
+    names: DayNames,
 ) -> Result<Ending, RunRefusal>
     requires writable { O.failure_count output.old < u64.MAX }
     requires tellable { E.failure_count errors.old < u64.MAX }
-    ensures put { PutsLoose text.now (O.taken output.old) (O.taken output.new) (O.is_ended output.new)
+    ensures put { PutsLoose names text.now (O.taken output.old) (O.taken output.new) (O.is_ended output.new)
         (telling (E.taken errors.old) (E.taken errors.new) (E.failure_count errors.old) (E.failure_count errors.new)) result }
     ensures write_faults { O.failure_count output.new
         ≡ failures_after_write result (O.failure_count output.old) }
 {
-    match lines_of(alloc, text) {
+    match lines_of(alloc, text, names) {
         Ok(lines) => put_lines(output, errors, &lines),
         Err(refusal) => Err(refusal),
     }
@@ -182,8 +182,8 @@ pub(crate) fn print_hours_domain<O: Output, E: Output>(
 ) -> Result<Ending, RunRefusal>
     requires writable { O.failure_count output.old < u64.MAX }
     requires tellable { E.failure_count errors.old < u64.MAX }
-    ensures ran { RanHours plan.now.strict (string_bytes plan.now.text) (O.taken output.old) (O.taken output.new)
-        (O.is_ended output.new)
+    ensures ran { RanHours plan.now.strict plan.now.names (string_bytes plan.now.text) (O.taken output.old)
+        (O.taken output.new) (O.is_ended output.new)
         (telling (E.taken errors.old) (E.taken errors.new) (E.failure_count errors.old) (E.failure_count errors.new)) result }
     ensures write_faults { O.failure_count output.new
         ≡ failures_after_write result (O.failure_count output.old) }
@@ -192,16 +192,16 @@ pub(crate) fn print_hours_domain<O: Output, E: Output>(
     if plan.strict {
         print_domain_of(alloc, output, plan.text.as_str())
     } else {
-        print_loose(alloc, output, errors, plan.text.as_str())
+        print_loose(alloc, output, errors, plan.text.as_str(), plan.names)
     }
 }
 
 // The line of the hours that the text stands for, as they are strictly written.
-fn mended_line(alloc: Global, text: &str) -> Result<String, RunRefusal>
-    ensures line { IfOk result (λ line. IsMendedLine text.now (string_bytes line)) }
-    ensures refused { IfErr result (IsUnread text.now) }
+fn mended_line(alloc: Global, text: &str, names: DayNames) -> Result<String, RunRefusal>
+    ensures line { IfOk result (λ line. IsMendedLine names text.now (string_bytes line)) }
+    ensures refused { IfErr result (IsUnread names text.now) }
 {
-    let read = match read(alloc, text) {
+    let read = match read(alloc, text, names) {
         Ok(read) => read,
         Err(refusal) => return Err(refusal),
     };
@@ -216,14 +216,15 @@ pub(crate) fn print_mended_hours<O: Output>(
     alloc: Global,
     output: &mut O,
     text: &str,
+    names: DayNames,
 ) -> Result<Ending, RunRefusal>
     requires writable { O.failure_count output.old < u64.MAX }
-    ensures put { PutText (IsMendedLine text.now) (IsUnread text.now) (O.taken output.old) (O.taken output.new)
+    ensures put { PutText (IsMendedLine names text.now) (IsUnread names text.now) (O.taken output.old) (O.taken output.new)
         (O.is_ended output.new) result }
     ensures write_faults { O.failure_count output.new
         ≡ failures_after_write result (O.failure_count output.old) }
 {
-    match mended_line(alloc, text) {
+    match mended_line(alloc, text, names) {
         Ok(line) => print_text(output, line.as_str()),
         Err(refusal) => Err(refusal),
     }

@@ -221,7 +221,9 @@ pub fn perform<I: Input, O: Output, E: Output>(
         OnePlan::SameRows(_) => print_repeats(alloc, input, output, path),
         OnePlan::Records(_) => print_records(alloc, input, output, errors, path),
         OnePlan::Mend(_) => print_mended(alloc, input, output, errors, path),
-        OnePlan::MendHours(text) => print_mended_hours(alloc, output, text.as_str()),
+        OnePlan::MendHours(plan) => {
+            print_mended_hours(alloc, output, plan.text.as_str(), plan.names)
+        }
         OnePlan::Show(text) => print_text(output, text.as_str()),
     }
 }

@@ -15,7 +15,7 @@ use Rattle.gtdesk_words.specs.Text.{Text}
 use Rattle.gtdesk_words.specs.HoursWords.{HasDomain, IsNoDomainOf}
 use Rattle.gtd_mistakes.specs.declared.rule.Rule.{Rule}
 use Rattle.gtdesk_words.specs.Words.{AreDays, AreRules, HasNoRule, IsDayWord, IsNoDay, IsNoVehicle, IsNoYear, IsVehicleWord}
-use Rattle.gtdesk_words.specs.Words.{IsYearWord, language_in, numbers_of, parts_of}
+use Rattle.gtdesk_words.specs.Words.{IsYearWord, day_names_in, language_in, numbers_of, parts_of}
 use Rattle.gtdesk_words.specs.declared.refusal.NoDomain.{NoDomain}
 use Rattle.gtdesk_words.specs.declared.refusal.Reason.{Reason}
 use Rattle.gtdesk_words.specs.declared.refusal.Reason.TheVariants as reason
@@ -26,7 +26,7 @@ use Rattle.gtdesk_words.specs.declared.refusal.WordsRefusal.TheVariants as refus
 
 -- What a word has to be: the number of an element, or such numbers with commas between them; a direction; a vehicle type; a year;
 -- a moment; a date; a date that makes a horizon with the date before it; a time domain; opening hours that have one; a language;
--- rules; a day; the name of a time zone.
+-- a language of weekdays; rules; a day; the name of a time zone.
 pub data Reading : Type 0 where
   element : (text : Text) → Reading
   elements : (text : Text) → Reading
@@ -39,6 +39,7 @@ pub data Reading : Type 0 where
   domain : (text : Text) → Reading
   hours : (text : Text) → Reading
   language : (text : Text) → Reading
+  day_names : (text : Text) → Reading
   rules : (text : Text) → Reading
   day : (text : Text) → Reading
   zone : (text : Text) → Reading
@@ -56,6 +57,7 @@ Stands (Reading.days from to) = (horizon : Horizon) × AreDays from to horizon
 Stands (Reading.domain text) = HasNoFault text
 Stands (Reading.hours text) = HasDomain text
 Stands (Reading.language text) = IsSome (language_in text)
+Stands (Reading.day_names text) = IsSome (day_names_in text)
 Stands (Reading.rules text) = (rules : List Rule) × AreRules (parts_of text) rules
 Stands (Reading.day text) = (days : Horizon) × IsDayWord text days
 Stands (Reading.zone text) = is_zone_name text ≡ true
@@ -75,6 +77,7 @@ IsReason (Reading.days from to) why =
 IsReason (Reading.domain text) why = (fault : TextFault) × (why ≡ reason.Domain fault) × IsFault text fault
 IsReason (Reading.hours text) why = (none : NoDomain) × (why ≡ reason.Hours none) × IsNoDomainOf text none
 IsReason (Reading.language text) why = (why ≡ reason.Language) × (language_in text ≡ None)
+IsReason (Reading.day_names text) why = (why ≡ reason.DayNames) × (day_names_in text ≡ None)
 IsReason (Reading.rules text) why = (why ≡ reason.Rule) × HasNoRule (parts_of text)
 IsReason (Reading.zone text) why = (why ≡ reason.Zone) × (is_zone_name text ≡ false)
 IsReason (Reading.day text) why =

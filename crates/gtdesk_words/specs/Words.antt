@@ -13,6 +13,8 @@ use Rattle.gtd_core.specs.Whole.{from_day, to_day}
 use Rattle.gtd_core.specs.declared.domain.Domain.{Domain}
 use Rattle.gtd_core.specs.declared.horizon.Horizon.{Horizon}
 use Rattle.gtd_core.specs.declared.second.Sec.{Sec}
+use Rattle.gtd_hours_loose_tokens.specs.declared.token.DayNames.{DayNames}
+use Rattle.gtd_hours_loose_tokens.specs.declared.token.DayNames.TheVariants as names
 use Rattle.gtd_phrases.specs.declared.phrase.Language.{Language}
 use Rattle.gtd_phrases.specs.declared.phrase.Language.TheVariants.{English, French, German}
 use Rattle.gtd_records.specs.Columns.{number_of}
@@ -83,6 +85,15 @@ language_in text =
 abbrev pub language_for : Option Text → Option Language
 language_for None = Some English
 language_for (Some text) = language_in text
+
+-- What `Di`, `Do` and `So` are in the language that a word names.
+abbrev pub day_names_in : Text → Option DayNames
+day_names_in text = if bytes_eq text (codes "de") then Some names.German else None
+
+-- The same of a word that may be left out: then that is not said.
+abbrev pub day_names_for : Option Text → Option DayNames
+day_names_for None = Some names.Unsaid
+day_names_for (Some text) = day_names_in text
 
 -- The texts name these rules, in their order.
 abbrev pub AreRules : List Text → List Rule → Type 0

@@ -32,6 +32,8 @@ pub enum WordName {
     To,
     /// `LANGUAGE`
     Language,
+    /// `NAMES`
+    Names,
     /// `RULE`
     Rule,
     /// `DAY`
@@ -77,6 +79,8 @@ pub enum Reason {
     Hours(NoDomain),
     /// It is not `en`, `de` or `fr`.
     Language,
+    /// It is not `de`, the language of names of weekdays that can be given.
+    DayNames,
     /// It is not the name of a rule, or not such names with commas between them.
     Rule,
     /// It is a date, but none from 1901-01-01 to 2699-12-31.

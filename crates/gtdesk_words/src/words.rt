@@ -11,7 +11,7 @@ ghost use Rattle.gtdesk_words.specs.Readings.{AreStopped, Reading, if_given, wor
 ghost use Rattle.gtd_mistakes.specs.RuleNames.{name_of};
 ghost use Rattle.gtdesk_words.specs.Words.{AreDays, AreRules, AreRulesIn, HasNoRule, IsDayIn, IsDayWord, IsFromWord, IsNoRule};
 ghost use Rattle.gtdesk_words.specs.Words.{IsNoVehicle, IsNoYear, IsReadDomain, IsVehicleWord, IsYearWord, elements_in};
-ghost use Rattle.gtdesk_words.specs.Words.{language_for, language_in, numbers_of, parts_of};
+ghost use Rattle.gtdesk_words.specs.Words.{day_names_for, day_names_in, language_for, language_in, numbers_of, parts_of};
 
 use crate::hours::hours_domain;
 use crate::moment::Moment;
@@ -19,6 +19,7 @@ use crate::refusal::{Reason, WordFault, WordName, WordsRefusal};
 use gtd_calendar::read_date;
 use gtd_core::limits::FIRST_MOMENT;
 use gtd_core::{Domain, Fault, Horizon, Sec, TextFault};
+use gtd_hours_loose_tokens::DayNames;
 use gtd_mistakes::{Rule, rule_of_name};
 use gtd_moments::read_moment;
 use gtd_phrases::Language;
@@ -257,6 +258,41 @@ pub fn language_of(text: Option<&str>) -> Result<Language, WordsRefusal>
     match text {
         Some(text) => language_named(text),
         None => Ok(Language::English),
+    }
+}
+
+// What `Di`, `Do` and `So` are in the language that a text names.
+fn day_names_in(text: &str) -> Option<DayNames>
+    ensures { result ≡ day_names_in text.now }
+{
+    match text {
+        "de" => Some(DayNames::German),
+        _ => None,
+    }
+}
+
+// The same, or the refusal of the text.
+fn day_names_named(text: &str) -> Result<DayNames, WordsRefusal>
+    ensures { MatchResult result (λ names. day_names_in text.now ≡ Some names)
+        (AreStopped (word_as WordName.Names (Reading.day_names text.now) ∷ [])) }
+{
+    match day_names_in(text) {
+        Some(names) => Ok(names),
+        None => Err(WordsRefusal::Word(WordFault {
+            word: WordName::Names,
+            why: Reason::DayNames,
+        })),
+    }
+}
+
+/// What `Di`, `Do` and `So` are in the language that a word names, which may be left out: then that is not said.
+pub fn day_names_of(text: Option<&str>) -> Result<DayNames, WordsRefusal>
+    ensures { MatchResult result (λ names. day_names_for (option_map (λ s. s.now) text.entry) ≡ Some names)
+        (AreStopped (if_given (option_map (λ s. s.now) text.entry) (λ t. word_as WordName.Names (Reading.day_names t)))) }
+{
+    match text {
+        Some(text) => day_names_named(text),
+        None => Ok(DayNames::Unsaid),
     }
 }
 

@@ -1,28 +1,38 @@
--- The command `hours [--strict] TEXT`, or `hours --of DOMAIN`.
+-- The command `hours [--strict] [--day-names NAMES] TEXT`, or `hours --of DOMAIN`.
 use Rattle.std.specs.Prelude.{◌≡◌, [], ◌∷◌, List, Option, Some, None, IsSomeAnd, codes, string_bytes}
 use Rattle.clap.specs.Simple.{App}
 use Rattle.clap.specs.Walk.{Row}
 use Rattle.gtd_core.specs.declared.domain.Domain.{Domain}
 use Rattle.gtdesk_plans.specs.Arguments.{command_of, flag_rule, free_word_rule, option_rule}
+use Rattle.gtdesk_plans.specs.DayNames.{AreDayNames, day_names_rule, day_names_words}
 use Rattle.gtdesk_words.specs.Readings.{Reading, Word, word_as}
 use Rattle.gtdesk_plans.specs.Rows.{is_given, text_of}
 use Rattle.gtdesk_words.specs.Words.{IsReadDomain}
+use Rattle.gtdesk_plans.specs.declared.commands.hours.HoursPlan.{HoursPlan}
 use Rattle.gtdesk_plans.specs.declared.plans.OnePlan.TheVariants as one
 use Rattle.gtdesk_plans.specs.declared.plans.Plan.{Plan}
 use Rattle.gtdesk_plans.specs.declared.plans.Plan.TheVariants as plan
 use Rattle.gtdesk_words.specs.declared.refusal.WordName.TheVariants as name
 
 abbrev pub app : App
-app = command_of (codes "hours") (flag_rule (codes "strict") ∷ free_word_rule (codes "TEXT") ∷ option_rule (codes "of") ∷ [])
+app =
+    command_of (codes "hours")
+    (flag_rule (codes "strict") ∷ day_names_rule ∷ free_word_rule (codes "TEXT") ∷ option_rule (codes "of") ∷ [])
 
 -- The text is read when the plan is carried out.
 abbrev pub words : List Row → List Word
-words rows = []
+words rows = day_names_words rows
+
+abbrev pub IsTextPlan : List Row → HoursPlan → Type 0
+IsTextPlan rows p =
+    (string_bytes p.text ≡ text_of (codes "TEXT") rows) × (p.strict ≡ is_given (codes "strict") rows) × AreDayNames rows p.names
+
+abbrev pub text_plan_in : Plan → Option HoursPlan
+text_plan_in (plan.One (one.DomainOf p)) = Some p
+text_plan_in other = None
 
 abbrev pub Asks : List Row → Plan → Type 0
-Asks rows (plan.One (one.DomainOf p)) =
-    (string_bytes p.text ≡ text_of (codes "TEXT") rows) × (p.strict ≡ is_given (codes "strict") rows)
-Asks rows other = ⊥
+Asks rows p = IsSomeAnd (text_plan_in p) (IsTextPlan rows)
 
 -- The same for a domain.
 abbrev pub words_of : List Row → List Word

@@ -7,11 +7,12 @@ ghost use Rattle.gtdesk_plans.specs.Arguments.{Builds};
 ghost use Rattle.gtdesk_plans.specs.Commands.Hours.{Asks, AsksOf, app, words, words_of};
 ghost use Rattle.gtdesk_words.specs.Readings.{AreStopped};
 
-use crate::arguments::{Argument, with_arguments};
-use crate::given::{is_given, text};
+use crate::arguments::{Argument, DAY_NAMES, with_arguments};
+use crate::given::{is_given, text, value};
 use crate::plans::{OnePlan, Plan};
 use clap::{ArgMatches, Command};
-use gtdesk_words::{WordName, WordsRefusal, domain_of};
+use gtd_hours_loose_tokens::DayNames;
+use gtdesk_words::{WordName, WordsRefusal, day_names_of, domain_of};
 use std::alloc::{AllocError, Global};
 
 /// A text of opening hours.
@@ -21,6 +22,8 @@ pub struct HoursPlan {
     pub text: String,
     /// Whether it is refused if it is written loosely.
     pub strict: bool,
+    /// What `Di`, `Do` and `So` are where it is written loosely.
+    pub names: DayNames,
 }
 
 // What help says at the end.
@@ -35,11 +38,12 @@ const ABOUT: &str =
     or opening hours that are open at exactly the seconds of a time domain";
 
 // Its words and options.
-const ARGUMENTS: [Argument; 3] = [
+const ARGUMENTS: [Argument; 4] = [
     Argument::Flag {
         name: "strict",
         help: "Refuse a text that is written loosely",
     },
+    DAY_NAMES,
     Argument::FreeWord {
         name: "TEXT",
         help: "The opening hours",
@@ -66,9 +70,17 @@ pub(crate) fn command<'a>(alloc: Global) -> Result<Command<'a>, AllocError>
 pub(crate) fn plan(alloc: Global, given: &ArgMatches<'_>) -> Result<Plan, WordsRefusal>
     ensures { MatchResult result (Asks (rows_of (found_of given.now))) (AreStopped (words (rows_of (found_of given.now)))) }
 {
+    let names = match day_names_of(value(given, "day-names")) {
+        Ok(names) => names,
+        Err(refusal) => return Err(refusal),
+    };
     let strict = is_given(given, "strict");
     match String::from_str(alloc, text(given, "TEXT")) {
-        Ok(text) => Ok(Plan::One(OnePlan::DomainOf(HoursPlan { text, strict }))),
+        Ok(text) => Ok(Plan::One(OnePlan::DomainOf(HoursPlan {
+            text,
+            strict,
+            names,
+        }))),
         Err(_) => Err(WordsRefusal::Memory),
     }
 }

@@ -23,7 +23,7 @@ use Rattle.gtdesk_words.specs.Text.{Text}
 use Rattle.gtdesk_words.specs.HoursWords.{HasDomain, IsNoDomainOf}
 use Rattle.gtdesk_words.specs.Readings.{AllStand, AreStopped, IsFaultOf, IsFirstFault, IsReason, Reading, Stands, Word}
 use Rattle.gtd_mistakes.specs.declared.rule.Rule.{Rule}
-use Rattle.gtdesk_words.specs.Words.{AreDays, AreRules, HasNoRule, IsNoDay, language_in, numbers_of, parts_of}
+use Rattle.gtdesk_words.specs.Words.{AreDays, AreRules, HasNoRule, IsNoDay, day_names_in, language_in, numbers_of, parts_of}
 use Rattle.gtdesk_words.specs.declared.refusal.NoDomain.{NoDomain}
 use Rattle.gtdesk_words.specs.declared.refusal.NoDomain.TheVariants as none
 use Rattle.gtdesk_words.specs.declared.refusal.Reason.{Reason}
@@ -159,6 +159,7 @@ no_day_reason text days day why e are (inr h) = day_or_none text days day e are 
 stands_or_not : (reading : Reading) (why : Reason) → Stands reading → IsReason reading why → ⊥
 stands_or_not (Reading.element text) why s h = some_read (number_of text) s h.1
 stands_or_not (Reading.language text) why s h = some_read (language_in text) s h.1
+stands_or_not (Reading.day_names text) why s h = some_read (day_names_in text) s h.1
 stands_or_not (Reading.elements text) why s h = some_read (numbers_of (parts_of text)) s h.1
 stands_or_not (Reading.direction text) why s h = some_read (direction_of text) s h.1
 stands_or_not (Reading.vehicle text) why s h = h.1 s.0 s.1.0 s.1.1
@@ -175,6 +176,7 @@ stands_or_not (Reading.day text) why s h = no_day_reason text s.0 s.1.0 why s.1.
 one_why : (reading : Reading) (a b : Reason) → IsReason reading a → IsReason reading b → a ≡ b
 one_why (Reading.element text) a b h k = h.0 ∙ sym k.0
 one_why (Reading.language text) a b h k = h.0 ∙ sym k.0
+one_why (Reading.day_names text) a b h k = h.0 ∙ sym k.0
 one_why (Reading.elements text) a b h k = h.0 ∙ sym k.0
 one_why (Reading.direction text) a b h k = h.0 ∙ sym k.0
 one_why (Reading.vehicle text) a b h k = h.0 ∙ sym k.0
