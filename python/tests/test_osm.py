@@ -314,9 +314,10 @@ def test_a_bar_on_a_terminal(town, tmp_path):
         ("name,kind,means\n", ": Header (accepted is kind,name,means)"),
         ("kind,name,means,more\n", ": Header (accepted is kind,name,means)"),
         (HEADER + "mode,access,0\n\nmode,hgv\n", ", row 2: FieldCount (accepted are 3 fields)"),
+        (HEADER + "x" * 200_000, ": FieldCount (field larger than field limit (131072))"),
         (HEADER + "x" * 16_777_216, ": TooLarge (accepted are 16,777,216 bytes)"),
     ],
-    ids=["empty", "other order", "more", "fields", "size"],
+    ids=["empty", "other order", "more", "fields", "field", "size"],
 )
 def test_a_file_that_is_no_file_of_means(text, said, town, tmp_path, capsys):
     means = tmp_path / "means.csv"

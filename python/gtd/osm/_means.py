@@ -58,13 +58,15 @@ def read_names(path: str) -> Names:
     if len(read) > LARGEST_FILE:
         raise Fault("TooLarge", file=path, note=f"accepted are {LARGEST_FILE:,} bytes")
     text = read.decode("utf-8-sig", "surrogateescape")
-    csv.field_size_limit(LARGEST_FILE)
-    rows = (fields for fields in csv.reader(io.StringIO(text, newline="")) if fields)
-    if next(rows, None) != _HEADER:
+    try:
+        rows = [fields for fields in csv.reader(io.StringIO(text, newline="")) if fields]
+    except csv.Error as error:
+        raise Fault("FieldCount", file=path, note=str(error)) from None
+    if not rows or rows[0] != _HEADER:
         raise Fault("Header", file=path, note=f"accepted is {','.join(_HEADER)}")
     modes: Set[str] = set()
     ignored: Set[str] = set()
-    for number, fields in enumerate(rows, 1):
+    for number, fields in enumerate(rows[1:], 1):
         if len(fields) != len(_HEADER):
             raise Fault("FieldCount", file=path, row=number, note=f"accepted are {len(_HEADER)} fields")
         if fields[0] == "mode":

@@ -9,7 +9,6 @@ from gtd._fault import Fault
 from gtd.osm._means import CONDITIONAL, Names
 from gtd.osm._tables import Tables
 
-
 _MOST_UNKNOWN = 1000  # keys that are counted, so that the memory does not grow with the extract
 
 
