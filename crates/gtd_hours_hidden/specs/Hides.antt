@@ -53,7 +53,7 @@ same_weekdays_range x y = (x.first == y.first) && (x.last == y.last)
 abbrev pub same_place : WeekdayPlace → WeekdayPlace → Bool
 same_place x y = (x.weekday == y.weekday) && (x.number == y.number)
 
--- the same selector
+-- The same selector. Days that move from year to year are not compared: they are like no other.
 abbrev pub same_selector : Selector → Selector → Bool
 same_selector (Years x) (Years y) = same_years x y
 same_selector (Months x) (Months y) = same_months x y

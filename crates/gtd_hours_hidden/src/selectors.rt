@@ -76,6 +76,8 @@ fn same_selector(one: Selector, other: Selector) -> bool
         Selector::Weekdays(days) => are_weekdays(days, other),
         Selector::Nth(place) => is_nth(place, other),
         Selector::NthBack(place) => is_nth_back(place, other),
+        Selector::Moved(_) => false,
+        Selector::Moving(_) => false,
     }
 }
 

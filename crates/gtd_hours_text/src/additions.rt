@@ -61,6 +61,8 @@ fn with_selector(draft: Draft, selector: Selector) -> Result<Draft, AllocError>
         Selector::Weekdays(_) => with_weekdays(draft, selector),
         Selector::Nth(_) => with_weekdays(draft, selector),
         Selector::NthBack(_) => with_weekdays(draft, selector),
+        Selector::Moved(_) => with_weekdays(draft, selector),
+        Selector::Moving(_) => with_month_days(draft, selector),
     }
 }
 

@@ -34,3 +34,12 @@ returns-in-Nth c =
 pub returns-in-NthBack : goal.returns-in-NthBack
 returns-in-NthBack c =
     of_kind names_weekdays c.args.draft c.args.selector c.with_weekdays-in-NthBack.result (λ y. cc) c.with_weekdays-in-NthBack.ensures
+
+pub returns-in-Moved : goal.returns-in-Moved
+returns-in-Moved c =
+    of_kind names_weekdays c.args.draft c.args.selector c.with_weekdays-in-Moved.result (λ y. cc) c.with_weekdays-in-Moved.ensures
+
+pub returns-in-Moving : goal.returns-in-Moving
+returns-in-Moving c =
+    of_kind names_month_days c.args.draft c.args.selector c.with_month_days-in-Moving.result (λ y. cc)
+    c.with_month_days-in-Moving.ensures
