@@ -78,6 +78,7 @@ part tests/words.py
 part tests/hours.py 10 1
 part tests/holidays_model.py
 part tests/listed_days.py
+part tests/hidden_model.py
 part tests/conditional_model.py
 part tests/hours_program.py 10 1
 part tests/same.py 1000 1
