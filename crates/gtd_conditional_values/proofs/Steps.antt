@@ -98,7 +98,8 @@ module _ (text : List ℕ) (at : ℕ) (comment : Bool) (depth : ℕ) (less : at 
   pub more_closed : closed_length false 0 text ≡ at + closed_length comment depth (drop at text)
       → is_closing comment depth (get_or text at 0) ≡ false
       → closed_length false 0 text
-      ≡ (at + 1) + closed_length (quoted comment (get_or text at 0)) (nested comment depth (get_or text at 0)) (drop (at + 1) text)
+      ≡ (at + 1)
+      + closed_length (quoted comment (get_or text at 0)) (nested comment depth (get_or text at 0)) (drop (at + 1) text)
   more_closed so_far other =
       so_far ∙ ap (λ (l : List ℕ). at + closed_length comment depth l) (drop_more text at 0 less)
       ∙ ap (λ (n : ℕ). at + n) (closes_on comment depth (get_or text at 0) (drop (at + 1) text) other)

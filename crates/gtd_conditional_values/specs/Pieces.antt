@@ -1,5 +1,6 @@
 -- The pieces of a part: its name and its condition, without spaces around them, and what parentheses enclose.
-use Rattle.std.specs.Prelude.{ℕ, Bool, ◌&&◌, not, false, if◌then◌else◌, List, [], ◌∷◌, ◌+◌, ◌-◌, ◌==◌, nat_eq, nat_lt, length, take, drop}
+use Rattle.std.specs.Prelude.{ℕ, Bool, ◌&&◌, not, false, if◌then◌else◌, List, [], ◌∷◌, ◌+◌, ◌-◌, ◌==◌, nat_eq, nat_lt, length}
+use Rattle.std.specs.Prelude.{take, drop}
 use Rattle.std.specs.Prelude.{Option, Some, None}
 use Rattle.std.specs.List.{prefix_len, suffix_len}
 use Rattle.gtd_conditional_values.specs.Nesting.{nested, quoted}

@@ -5,13 +5,17 @@
 //! the first term of a condition goes. The law in [`laws`] says that a value has its parts in one way.
 #![tactic(auto)]
 
+pub use names::condition_name;
 pub use nesting::first_unnested;
 pub use parts::part_length;
 pub use pieces::{at_sign, enclosed, front_spaces, trimmed};
+pub use term::{Term, TermFault, UnreadTerm, read_term};
 pub use terms::term_length;
 
 pub mod laws;
+mod names;
 mod nesting;
 mod parts;
 mod pieces;
+mod term;
 mod terms;

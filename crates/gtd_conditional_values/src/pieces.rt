@@ -1,6 +1,6 @@
 //! The pieces of a part: its name and its condition.
 
-ghost use Rattle.std.specs.Prelude.{◌≡◌, ◌≤◌, ◌+◌, false, length, nat_eq, option_map};
+ghost use Rattle.std.specs.Prelude.{◌≡◌, ◌≤◌, ◌+◌, false, length, nat_eq, option_map, IfSome};
 ghost use Rattle.std.specs.List.{prefix_len, suffix_len};
 ghost use Rattle.gtd_conditional_values.specs.Pieces as spec;
 
@@ -105,6 +105,7 @@ fn is_enclosed(text: &[u8]) -> bool
 /// such. Takes no memory.
 pub fn enclosed(text: &[u8]) -> Option<&[u8]>
     ensures inside { option_map (λ inside. inside.now) result ≡ spec.enclosed text.now }
+    ensures shorter { IfSome result (λ inside. length inside.now + 2 ≤ length text.now) }
 {
     if text.len() < 2 || !is_enclosed(text) {
         return None;
