@@ -12,7 +12,7 @@ use crate::fault::MeansFault;
 use crate::meaning::{Access, Meaning, MeansKind, MeansRow};
 use crate::means::{known_access, meaning_in};
 use crate::rows::{Columns, three_columns};
-use crate::words::{copy_of, is_lower_word, is_some_text};
+use crate::words::{is_lower_word, is_some_text};
 use csv::ByteRecord;
 use gtd_records::{Version, read_vehicles};
 use std::alloc::{AllocError, Global};
@@ -166,7 +166,7 @@ fn row_of(alloc: Global, name: &[u8], meaning: Meaning) -> Result<MeansRow, Allo
     ensures { IfOk result (λ row. (row.name.items ≡ name.now) × (row.meaning ≡ meaning)) }
 {
     Ok(MeansRow {
-        name: copy_of(alloc, name)?,
+        name: name.to_vec(alloc)?,
         meaning,
     })
 }

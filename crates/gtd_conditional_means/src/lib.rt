@@ -9,7 +9,7 @@ pub use comparison::normal_form;
 pub use fault::{MeansFault, MeansFaultText};
 pub use meaning::{Access, Meaning, MeansKind, MeansRow};
 pub use means::{Means, Unread, read_means};
-pub use words::{copy_of, is_lower_word};
+pub use words::is_lower_word;
 
 mod comparison;
 mod fault;

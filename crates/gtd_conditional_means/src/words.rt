@@ -1,10 +1,8 @@
-//! Words, and copies of bytes.
+//! Words.
 
-ghost use Rattle.std.specs.Prelude.{◌≡◌, IfOk};
+ghost use Rattle.std.specs.Prelude.{◌≡◌};
 ghost use Rattle.std.specs.List.{list_all};
 ghost use Rattle.gtd_conditional_means.specs.Comparisons as spec;
-
-use std::alloc::{AllocError, Global};
 
 /// Whether a byte is a lower case letter of ASCII or `_`.
 pub(crate) fn is_word_byte(byte: u8) -> bool
@@ -32,13 +30,4 @@ pub fn is_lower_word(text: &[u8]) -> bool
     ensures is { result ≡ spec.is_lower_word text.now }
 {
     is_some_text(text) && are_word_bytes(text)
-}
-
-/// A copy of bytes. `AllocError` is answered only if memory was refused.
-pub fn copy_of(alloc: Global, bytes: &[u8]) -> Result<Vec<u8>, AllocError>
-    ensures copy { IfOk result (λ copy. copy.items ≡ bytes.now) }
-{
-    let mut copy = Vec::new(alloc);
-    copy.extend_from_slice(bytes)?;
-    Ok(copy)
 }

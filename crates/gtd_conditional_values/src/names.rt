@@ -6,7 +6,7 @@ ghost use Rattle.gtd_conditional_means.specs.Names.{is_there};
 ghost use Rattle.gtd_conditional_means.specs.declared.meaning.MeansKind.TheVariants.{Condition};
 ghost use Rattle.gtd_conditional_values.specs.TermNames as spec;
 
-use gtd_conditional_means::{Means, copy_of, is_lower_word, normal_form};
+use gtd_conditional_means::{Means, is_lower_word, normal_form};
 use std::alloc::{AllocError, Global};
 
 fn is_state_word(word: &[u8]) -> bool
@@ -66,7 +66,7 @@ fn word_name(alloc: Global, means: &Means, term: &[u8]) -> Result<Option<Vec<u8>
     if !is_condition_word(means, term) {
         return Ok(None);
     }
-    Ok(Some(copy_of(alloc, term)?))
+    Ok(Some(term.to_vec(alloc)?))
 }
 
 /// The name by which a term is looked up in a table: a comparison by its normal form, and a word as it is. `None` if the term is
