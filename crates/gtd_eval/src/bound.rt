@@ -117,8 +117,8 @@ fn is_bound(expr: &Expr, holds: bool, second: Sec, horizon: Horizon) -> bool
 }
 
 /// The stay of an expression at a second, from one that may end too early: to the end of the horizon, if the basic domains that
-/// repeat weekly show alone that the expression stays as it is, whatever seconds the others contain. They are asked only where there
-/// are at least two of them, and others.
+/// repeat weekly show alone that the expression stays as it is, whatever seconds the others contain. They are asked only where
+/// there are at least two of them, and others.
 pub(crate) fn settled_stay(expr: &Expr, stay: Stay, second: Sec, horizon: Horizon) -> Stay
     requires inside { Within (whole horizon) second.0 }
     requires few { leaf_count (tree_of expr.now) ≤ most_basic_domains }

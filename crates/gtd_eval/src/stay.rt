@@ -300,9 +300,9 @@ fn expr_stay(expr: &Expr, second: Sec, horizon: Horizon) -> Stay
 /// Whether the domain contains the second, which must be in the horizon, and a later second, at most the end of the
 /// horizon, before which that does not change. It may stay so for longer, but the second that is answered is at least the
 /// first at which any basic domain of the domain changes; so for a single basic domain it is the next change. Of a basic
-/// domain that repeats each week, a week is looked at. A part whose basic domains repeat, and that few stays show not to change,
-/// stays as it is to the end. So does a domain if its basic domains that repeat settle alone, in few stays, whether it holds. Takes
-/// no memory.
+/// domain that repeats each week, a week is looked at. A part whose basic domains repeat, and that few stays show not to
+/// change, stays as it is to the end. So does a domain if its basic domains that repeat settle alone, in few stays, whether
+/// it holds. Takes no memory.
 ///
 /// ```
 /// let domain = read_domain(alloc, b"[(h10){h4}]")?;

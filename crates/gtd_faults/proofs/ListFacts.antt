@@ -12,58 +12,58 @@ use Rattle.gtd_records.specs.File.{IsFile, header}
 use Rattle.gtd_records.specs.facts.OneAnswer.{one_version}
 use Rattle.gtd_records.specs.declared.fault.RecordFault.{RecordFault}
 use Rattle.gtd_records.specs.declared.vehicles.Version.{Version}
-use Rattle.gtd_faults.specs.Below.{IsBelow, below_text}
+use Rattle.gtd_faults.specs.Snippet.{IsSnippet, snippet_text}
 use Rattle.gtd_mistakes.specs.declared.told.Told.{Told}
 use Rattle.gtd_warnings.specs.declared.codes.LoneCode.{LoneCode}
-use Rattle.gtd_faults.specs.Doubts.{AreDoubtLines, AreLoneLines, IsOfPart, doubt_below, doubt_line, lone_line}
-use Rattle.gtd_faults.specs.Listing.{AreLines, fault_line, fault_text, lines_below, row_of}
+use Rattle.gtd_faults.specs.Doubts.{AreDoubtLines, AreLoneLines, IsOfPart, doubt_snippet, doubt_line, lone_line}
+use Rattle.gtd_faults.specs.Listing.{AreLines, fault_line, fault_text, snippet_lines, row_of}
 use Rattle.gtd_faults.specs.Places.{IsLine, IsLineAt, field_of}
 use Rattle.gtd_faults.specs.Printable.{printable}
-use Rattle.gtd_faults.specs.declared.below.Below.{Below}
+use Rattle.gtd_faults.specs.declared.snippet.Snippet.{Snippet}
 
 -- a line is never empty
-some_line : (path : List ℕ) (line : ℕ) (why : RecordFault) (below after : List ℕ)
-    → fault_line path line why ++ below ++ after ≡ [] → ⊥
-some_line path line why below after e =
-    let all = length-append (fault_line path line why ++ below) after in
-    let both = length-append (fault_line path line why) below in
+some_line : (path : List ℕ) (line : ℕ) (why : RecordFault) (snippet after : List ℕ)
+    → fault_line path line why ++ snippet ++ after ≡ [] → ⊥
+some_line path line why snippet after e =
+    let all = length-append (fault_line path line why ++ snippet) after in
+    let both = length-append (fault_line path line why) snippet in
     let end = length-append (printable path ++ codes ":" ++ decimal line ++ codes ": " ++ fault_text why) (10 ∷ []) in
-    let none : length (fault_line path line why ++ below ++ after) ≡ 0 = ap length e in
+    let none : length (fault_line path line why ++ snippet ++ after) ≡ 0 = ap length e in
     absurd (omega (arith, all, both, end, none))
 
 -- the line of one fault more
 pub lines_more : (path bytes : List ℕ) (faults : List RecordFault) (why : RecordFault) (text : List ℕ) (line : ℕ)
-    (below : Below) → IsLineAt bytes (row_of why) line → IsBelow bytes why below → AreLines path bytes faults text
-    → AreLines path bytes (faults ++ why ∷ []) (text ++ (fault_line path line why ++ lines_below why below))
-lines_more path bytes [] why text line below on at is =
-    (line, on, below, at, [], refl, rw is (sym (append-nil (fault_line path line why ++ lines_below why below))))
-lines_more path bytes (x ∷ faults) why text line below on at is =
-    let more = fault_line path line why ++ lines_below why below in (
+    (snippet : Snippet) → IsLineAt bytes (row_of why) line → IsSnippet bytes why snippet → AreLines path bytes faults text
+    → AreLines path bytes (faults ++ why ∷ []) (text ++ (fault_line path line why ++ snippet_lines why snippet))
+lines_more path bytes [] why text line snippet on at is =
+    (line, on, snippet, at, [], refl, rw is (sym (append-nil (fault_line path line why ++ snippet_lines why snippet))))
+lines_more path bytes (x ∷ faults) why text line snippet on at is =
+    let more = fault_line path line why ++ snippet_lines why snippet in (
       is.0,
       is.1,
       is.2,
       is.3,
       is.4 ++ more,
-      lines_more path bytes faults why is.4 line below on at is.5,
-      rw (is.6) (append_assoc (fault_line path is.0 x ++ lines_below x is.2) is.4 more),
+      lines_more path bytes faults why is.4 line snippet on at is.5,
+      rw (is.6) (append_assoc (fault_line path is.0 x ++ snippet_lines x is.2) is.4 more),
     )
 
 -- the lines of one thing more that is told
-pub doubt_lines_more : (path bytes : List ℕ) (told : List Told) (one : Told) (text : List ℕ) (line : ℕ) (below : Below)
-    → IsLine bytes one.row line → IsOfPart (field_of bytes one.row 3) one.part.before below
+pub doubt_lines_more : (path bytes : List ℕ) (told : List Told) (one : Told) (text : List ℕ) (line : ℕ) (snippet : Snippet)
+    → IsLine bytes one.row line → IsOfPart (field_of bytes one.row 3) one.part.before snippet
     → AreDoubtLines path bytes told text
-    → AreDoubtLines path bytes (told ++ one ∷ []) (text ++ (doubt_line path line one ++ doubt_below one below))
-doubt_lines_more path bytes [] one text line below on at is =
-    (line, on, below, at, [], refl, rw is (sym (append-nil (doubt_line path line one ++ doubt_below one below))))
-doubt_lines_more path bytes (x ∷ told) one text line below on at is =
-    let more = doubt_line path line one ++ doubt_below one below in (
+    → AreDoubtLines path bytes (told ++ one ∷ []) (text ++ (doubt_line path line one ++ doubt_snippet one snippet))
+doubt_lines_more path bytes [] one text line snippet on at is =
+    (line, on, snippet, at, [], refl, rw is (sym (append-nil (doubt_line path line one ++ doubt_snippet one snippet))))
+doubt_lines_more path bytes (x ∷ told) one text line snippet on at is =
+    let more = doubt_line path line one ++ doubt_snippet one snippet in (
       is.0,
       is.1,
       is.2,
       is.3,
       is.4 ++ more,
-      doubt_lines_more path bytes told one is.4 line below on at is.5,
-      rw (is.6) (append_assoc (doubt_line path is.0 x ++ doubt_below x is.2) is.4 more),
+      doubt_lines_more path bytes told one is.4 line snippet on at is.5,
+      rw (is.6) (append_assoc (doubt_line path is.0 x ++ doubt_snippet x is.2) is.4 more),
     )
 
 -- the lines of codes, and of those after them
@@ -77,7 +77,7 @@ lone_lines_join path bytes (x ∷ lone) more text last is also = (
   is.3,
   is.4 ++ last,
   lone_lines_join path bytes lone more is.4 last is.5 also,
-  rw (is.6) (append_assoc (lone_line path is.0 x ++ below_text is.2) is.4 last),
+  rw (is.6) (append_assoc (lone_line path is.0 x ++ snippet_text is.2) is.4 last),
 )
 
 abbrev Accepted : List ℕ → Type 0
@@ -94,7 +94,7 @@ module _ (accepted : (bytes : List ℕ) → AreFileFaults bytes [] ↔ Accepted 
       → AreLines path bytes faults text → (text ≡ []) ↔ Accepted bytes
   nothing_listed path bytes [] text are lines = (λ e. (accepted bytes).0 are, λ is. lines)
   nothing_listed path bytes (why ∷ rest) text are lines = (
-    (λ e. absurd (some_line path lines.0 why (lines_below why lines.2) lines.4 (sym (lines.6) ∙ e))),
+    (λ e. absurd (some_line path lines.0 why (snippet_lines why lines.2) lines.4 (sym (lines.6) ∙ e))),
     (λ is. absurd (apart is.0 why (one bytes (Ok is.0) (Err why) is.1 (first bytes why rest are)))),
   )
 
@@ -109,12 +109,12 @@ module _ (accepted : (bytes : List ℕ) → AreFileFaults bytes [] ↔ Accepted 
       absurd (apart file.0 why (one bytes (Ok file.0) (Err why) file.1 is))
   first_line path bytes (x ∷ rest) text why are lines is =
       let same = same_fault x why (one bytes (Err x) (Err why) (first bytes x rest are) is) in
-      let below = lines_below x lines.2 in (
+      let snippet = snippet_lines x lines.2 in (
         lines.0,
         subst (λ (w : RecordFault). IsLineAt bytes (row_of w) lines.0) same lines.1,
-        below ++ lines.4,
-        lines.6 ∙ append_assoc (fault_line path lines.0 x) below lines.4
-            ∙ ap (λ w. fault_line path lines.0 w ++ (below ++ lines.4)) same,
+        snippet ++ lines.4,
+        lines.6 ∙ append_assoc (fault_line path lines.0 x) snippet lines.4
+            ∙ ap (λ w. fault_line path lines.0 w ++ (snippet ++ lines.4)) same,
       )
 
 module _ (each : (v : Version) (rows : List Fields) (faults : List RecordFault) → AreRowFaults v 1 rows faults

@@ -4,7 +4,7 @@ use Rattle.std.proofs.Common.{◌≡◌, ◌∙◌, ◌<◌, ◌≤◌, ◌+◌,
 use Rattle.std.proofs.Common.{true, false}
 use Rattle.std.specs.Prelude.{if◌then◌else◌, nat_le}
 use Rattle.std.proofs.lemmas.Bool.Decides.{nat_tests}
-use Rattle.gtd_faults.specs.Below.{fit, fit_back, width}
+use Rattle.gtd_faults.specs.Snippet.{fit, fit_back, width}
 
 chosen : (w left a : ℕ) → w ≤ left → (if nat_le w left then a else 0) ≡ a
 chosen w left a le = let e : nat_le w left ≡ true = grind (arith, nat_tests) in rw e refl

@@ -7,10 +7,10 @@ use Rattle.gtd_warnings.specs.RowsTold.{AreToldOfFile}
 use Rattle.gtd_warnings.specs.Sentences.{doubt_text, lone_text, perhaps_line}
 use Rattle.gtd_warnings.specs.declared.codes.LoneCode.{LoneCode}
 use Rattle.gtd_warnings.specs.declared.file.Asked.{Asked}
-use Rattle.gtd_faults.specs.Below.{IsOfField, below_text}
+use Rattle.gtd_faults.specs.Snippet.{IsOfField, snippet_text}
 use Rattle.gtd_faults.specs.Places.{IsLine, field_of}
 use Rattle.gtd_faults.specs.Printable.{printable}
-use Rattle.gtd_faults.specs.declared.below.Below.{Below}
+use Rattle.gtd_faults.specs.declared.snippet.Snippet.{Snippet}
 
 -- the bytes of a text before the parenthesis that opens after so many others: all of them, if there is none
 abbrev pub opening : ℕ → List ℕ → ℕ
@@ -21,7 +21,7 @@ opening before (byte ∷ text) =
     else suc (opening before text)
 
 -- what is shown of a domain: its stretch around the basic domain that stands after so many others
-abbrev pub IsOfPart : Option (List ℕ) → ℕ → Below → Type 0
+abbrev pub IsOfPart : Option (List ℕ) → ℕ → Snippet → Type 0
 IsOfPart None before shown = IsOfField None 0 shown
 IsOfPart (Some field) before shown = IsOfField (Some field) (opening before field) shown
 
@@ -30,16 +30,16 @@ abbrev pub doubt_line : List ℕ → ℕ → Told → List ℕ
 doubt_line path line told = printable path ++ codes ":" ++ decimal line ++ codes ": " ++ doubt_text told ++ codes "\n"
 
 -- the lines below it: the domain, with a caret below the basic domain, and what may be meant
-abbrev pub doubt_below : Told → Below → List ℕ
-doubt_below told below = below_text below ++ perhaps_line told.rule told.part
+abbrev pub doubt_snippet : Told → Snippet → List ℕ
+doubt_snippet told snippet = snippet_text snippet ++ perhaps_line told.rule told.part
 
 -- the lines of what is told of a file with these bytes, in order
 abbrev pub AreDoubtLines : List ℕ → List ℕ → List Told → List ℕ → Type 0
 AreDoubtLines path bytes [] text = text ≡ []
 AreDoubtLines path bytes (told ∷ rest) text =
-    (line : ℕ) × IsLine bytes told.row line × (below : Below) × IsOfPart (field_of bytes told.row 3) told.part.before below
+    (line : ℕ) × IsLine bytes told.row line × (snippet : Snippet) × IsOfPart (field_of bytes told.row 3) told.part.before snippet
     × (after : List ℕ) × AreDoubtLines path bytes rest after
-    × (text ≡ doubt_line path line told ++ doubt_below told below ++ after)
+    × (text ≡ doubt_line path line told ++ doubt_snippet told snippet ++ after)
 
 -- the line of a code that one row alone names
 abbrev pub lone_line : List ℕ → ℕ → LoneCode → List ℕ
@@ -49,9 +49,9 @@ lone_line path line lone = printable path ++ codes ":" ++ decimal line ++ codes 
 abbrev pub AreLoneLines : List ℕ → List ℕ → List LoneCode → List ℕ → Type 0
 AreLoneLines path bytes [] text = text ≡ []
 AreLoneLines path bytes (lone ∷ rest) text =
-    (line : ℕ) × IsLine bytes lone.row line × (below : Below) × IsOfField (field_of bytes lone.row 2) 0 below
+    (line : ℕ) × IsLine bytes lone.row line × (snippet : Snippet) × IsOfField (field_of bytes lone.row 2) 0 snippet
     × (after : List ℕ) × AreLoneLines path bytes rest after
-    × (text ≡ lone_line path line lone ++ below_text below ++ after)
+    × (text ≡ lone_line path line lone ++ snippet_text snippet ++ after)
 
 -- the lines of all warnings of a file: of what is told of its rows, and then of the codes that one row alone names
 pub record AreDoubts (path : List ℕ) (asked : Asked) (bytes text : List ℕ) : Type 0 where

@@ -1,4 +1,4 @@
-pub mod Below
+pub mod Snippet
 pub mod Doubts
 pub mod Expected
 pub mod Hints

@@ -7,12 +7,12 @@ use Rattle.gtd_records.specs.declared.fault.RecordFault.{RecordFault}
 use Rattle.gtd_records.specs.declared.fault.RecordFault.TheVariants as fault
 use Rattle.gtd_records.specs.Faults.{AreFileFaults}
 use Rattle.gtd_warnings.specs.declared.file.Asked.{Asked}
-use Rattle.gtd_faults.specs.Below.{IsBelow, below_text, byte_at}
+use Rattle.gtd_faults.specs.Snippet.{IsSnippet, snippet_text, byte_at}
 use Rattle.gtd_faults.specs.Doubts.{AreDoubts}
 use Rattle.gtd_faults.specs.Expected.{accepted_at, expected_line}
 use Rattle.gtd_faults.specs.Places.{IsLineAt}
 use Rattle.gtd_faults.specs.Printable.{printable}
-use Rattle.gtd_faults.specs.declared.below.Below.{Below}
+use Rattle.gtd_faults.specs.declared.snippet.Snippet.{Snippet}
 
 -- the words of a fault: its row, if it has one; its kind; and for a fault of a domain, the place
 abbrev pub fault_text : RecordFault → List ℕ
@@ -48,15 +48,15 @@ row_of fault.TooManyRows = Some (most_rows + 1)
 row_of why = None
 
 -- the lines below that of a fault: what is shown of the file, and what is accepted there
-abbrev pub lines_below : RecordFault → Below → List ℕ
-lines_below why below = below_text below ++ expected_line (accepted_at why (byte_at below))
+abbrev pub snippet_lines : RecordFault → Snippet → List ℕ
+snippet_lines why snippet = snippet_text snippet ++ expected_line (accepted_at why (byte_at snippet))
 
 -- The lines of the faults of a file with these bytes, in order: for each its line, and those below it.
 abbrev pub AreLines : List ℕ → List ℕ → List RecordFault → List ℕ → Type 0
 AreLines path bytes [] text = text ≡ []
 AreLines path bytes (why ∷ rest) text =
-    (line : ℕ) × IsLineAt bytes (row_of why) line × (below : Below) × IsBelow bytes why below × (after : List ℕ)
-    × AreLines path bytes rest after × (text ≡ fault_line path line why ++ lines_below why below ++ after)
+    (line : ℕ) × IsLineAt bytes (row_of why) line × (snippet : Snippet) × IsSnippet bytes why snippet × (after : List ℕ)
+    × AreLines path bytes rest after × (text ≡ fault_line path line why ++ snippet_lines why snippet ++ after)
 
 -- what is added for a file's warnings: their lines if they are asked for, otherwise nothing
 abbrev pub IsWarned : Option Asked → List ℕ → List ℕ → List ℕ → Type 0

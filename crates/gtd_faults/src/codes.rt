@@ -1,14 +1,14 @@
 //! Vehicle codes, and which rows name them.
 
 ghost use Rattle.std.specs.Prelude.{◌≡◌, ◌+◌, ◌++◌, [], ◌∷◌, ℕ, List, IfOk, OnOk, MatchOption, length, string_bytes};
-ghost use Rattle.gtd_faults.specs.Below.{below_text};
+ghost use Rattle.gtd_faults.specs.Snippet.{snippet_text};
 ghost use Rattle.gtd_faults.specs.Doubts.{AreLoneLines, lone_line};
 ghost use Rattle.gtd_faults.specs.Naming.{AreKept, AreLoneBefore, IsKept, kept_lines};
 ghost use Rattle.gtd_faults.specs.Standing.{IsRowOf};
 
-use crate::below::Below;
 use crate::printable::Printable;
 use crate::row::Row;
+use crate::snippet::Snippet;
 use gtd_warnings::{LoneCode, LoneText};
 use std::alloc::{AllocError, Global};
 
@@ -29,14 +29,14 @@ fn push_lone(
     path: &str,
     line: u64,
     lone: LoneCode,
-    below: Below<'_>,
+    snippet: Snippet<'_>,
 ) -> Result<(), AllocError>
     ensures { OnOk result (string_bytes text.new
-        ≡ string_bytes text.old ++ (lone_line path.now line lone ++ below_text below.entry)) }
+        ≡ string_bytes text.old ++ (lone_line path.now line lone ++ snippet_text snippet.entry)) }
 {
     let path = Printable(path.as_bytes());
     let words = LoneText(lone);
-    write!(text, "{path}:{line}: {words}\n{below}")
+    write!(text, "{path}:{line}: {words}\n{snippet}")
 }
 
 // The lines of a code, if this row alone names it.

@@ -10,14 +10,14 @@ ghost use Rattle.gtd_records.specs.ComputedRow.{IsRow};
 ghost use Rattle.gtd_records.specs.declared.vehicles.Version.{Version};
 ghost use Rattle.gtd_warnings.specs.Codes.{rows_needed};
 ghost use Rattle.gtd_warnings.specs.declared.file.Asked.{Asked};
-ghost use Rattle.gtd_faults.specs.Doubts.{AreDoubtLines, doubt_below, doubt_line};
+ghost use Rattle.gtd_faults.specs.Doubts.{AreDoubtLines, doubt_snippet, doubt_line};
 ghost use Rattle.gtd_faults.specs.ListedRows.{AreDoubted, AreDoubtsOfRows};
 ghost use Rattle.gtd_faults.specs.Standing.{IsRowOf};
 
-use crate::below::Below;
 use crate::codes::{Naming, none_named, push_all_lone, take_codes};
 use crate::printable::Printable;
 use crate::row::Row;
+use crate::snippet::Snippet;
 use gtd_mistakes::{Rule, Told};
 use gtd_records::{Record, RecordFault, Version};
 use gtd_warnings::{
@@ -38,11 +38,11 @@ fn push_line(text: &mut String, path: &str, line: u64, told: &Told) -> Result<()
 }
 
 // Appends the lines below it.
-fn push_below(text: &mut String, told: &Told, below: Below<'_>) -> Result<(), AllocError>
-    ensures { OnOk result (string_bytes text.new ≡ string_bytes text.old ++ doubt_below told.now below.entry) }
+fn push_snippet(text: &mut String, told: &Told, snippet: Snippet<'_>) -> Result<(), AllocError>
+    ensures { OnOk result (string_bytes text.new ≡ string_bytes text.old ++ doubt_snippet told.now snippet.entry) }
 {
     let perhaps = PerhapsLine(*told);
-    write!(text, "{below}{perhaps}")
+    write!(text, "{snippet}{perhaps}")
 }
 
 // Appends the lines of what is told of this row, in order.
@@ -53,7 +53,7 @@ fn push_told(text: &mut String, path: &str, row: &Row<'_>, told: &[Told]) -> Res
 {
     for one in told {
         push_line(text, path, row.place.line, one)?;
-        push_below(text, one, row.part(one.part.before))?;
+        push_snippet(text, one, row.part(one.part.before))?;
     }
     Ok(())
 }

@@ -1,18 +1,18 @@
 //! The lines of faults.
 
 ghost use Rattle.std.specs.Prelude.{◌≡◌, ◌++◌, ◌∷◌, [], ℕ, List, IfOk, IfSome, OnOk, string_bytes};
-ghost use Rattle.gtd_faults.specs.Below.{IsBelow};
+ghost use Rattle.gtd_faults.specs.Snippet.{IsSnippet};
 ghost use Rattle.gtd_faults.specs.Hints as spec;
 ghost use Rattle.gtd_faults.specs.ListedRows.{HasOneMore};
 ghost use Rattle.gtd_faults.specs.Listing as list;
-ghost use Rattle.gtd_faults.specs.Listing.{AreLines, fault_line, lines_below};
+ghost use Rattle.gtd_faults.specs.Listing.{AreLines, fault_line, snippet_lines};
 ghost use Rattle.gtd_faults.specs.Places.{IsLineAt};
 ghost use Rattle.gtd_faults.specs.Standing.{IsRowOf};
 
-use crate::below::{Below, byte_at};
 use crate::hint::hint_of;
 use crate::printable::Printable;
 use crate::row::Row;
+use crate::snippet::{Snippet, byte_at};
 use crate::stretch::Stretch;
 use crate::words::{Expected, FaultText, accepted_at};
 use gtd_records::RecordFault;
@@ -24,15 +24,15 @@ fn push_fault(
     path: &str,
     line: u64,
     fault: RecordFault,
-    below: Below<'_>,
+    snippet: Snippet<'_>,
 ) -> Result<(), AllocError>
     ensures { OnOk result (string_bytes text.new
-        ≡ string_bytes text.old ++ (fault_line path.now line fault ++ lines_below fault below.entry)) }
+        ≡ string_bytes text.old ++ (fault_line path.now line fault ++ snippet_lines fault snippet.entry)) }
 {
     let path = Printable(path.as_bytes());
     let words = FaultText(fault);
-    let expected = Expected(accepted_at(fault, byte_at(below)));
-    write!(text, "{path}:{line}: {words}\n{below}{expected}")
+    let expected = Expected(accepted_at(fault, byte_at(snippet)));
+    write!(text, "{path}:{line}: {words}\n{snippet}{expected}")
 }
 
 /// The bytes before the first line end, an LF or a CR: all of them if there is none.
@@ -48,11 +48,11 @@ pub fn first_line(bytes: &[u8]) -> &[u8]
 }
 
 // What is shown below the line of a file without a header: its first line.
-fn below_header(bytes: &[u8]) -> Below<'_>
-    ensures below { IsBelow bytes.now RecordFault.Header result }
+fn header_snippet(bytes: &[u8]) -> Snippet<'_>
+    ensures snippet { IsSnippet bytes.now RecordFault.Header result }
 {
     let line = first_line(bytes);
-    Below::Header {
+    Snippet::Header {
         found: Stretch::around(line, 0),
         expected: "element,direction,vehicle,domain (or vehicles)",
         hint: hint_of(line),
@@ -60,18 +60,18 @@ fn below_header(bytes: &[u8]) -> Below<'_>
 }
 
 // What is shown below the line of a row's fault: a field of it, or the row.
-fn below_row<'a>(row: &Row<'a>, fault: RecordFault) -> Below<'a>
-    ensures below { (bytes : List ℕ) → IsRowOf bytes row.now → IfSome (list.row_of fault) (λ number. row.now.number ≡ number)
-        → IsBelow bytes fault result }
+fn row_snippet<'a>(row: &Row<'a>, fault: RecordFault) -> Snippet<'a>
+    ensures snippet { (bytes : List ℕ) → IsRowOf bytes row.now → IfSome (list.row_of fault) (λ number. row.now.number ≡ number)
+        → IsSnippet bytes fault result }
 {
     match fault {
-        RecordFault::Header => below_header(row.bytes),
+        RecordFault::Header => header_snippet(row.bytes),
         RecordFault::FieldCount { .. } => row.whole(),
         RecordFault::Element { .. } => row.field(0, 0),
         RecordFault::Direction { .. } => row.field(1, 0),
         RecordFault::Vehicle { .. } => row.field(2, 0),
         RecordFault::Domain { fault, .. } => row.field(3, fault.place),
-        _ => Below::Nothing,
+        _ => Snippet::Nothing,
     }
 }
 
@@ -103,16 +103,16 @@ impl<'a> FaultLines<'a> {
         ensures { IfOk result (λ list. AreLines path.now [] (RecordFault.TooLarge ∷ []) (string_bytes list.text)) }
     {
         let mut list = FaultLines::new(alloc, path);
-        list.add(1, RecordFault::TooLarge, Below::Nothing)?;
+        list.add(1, RecordFault::TooLarge, Snippet::Nothing)?;
         Ok(list)
     }
 
     // Adds a fault on this line, with what is shown below it.
-    fn add(&mut self, line: u64, fault: RecordFault, below: Below<'_>) -> Result<(), AllocError>
-        ensures { (bytes : List ℕ) → IsLineAt bytes (list.row_of fault) line → IsBelow bytes fault below.entry
+    fn add(&mut self, line: u64, fault: RecordFault, snippet: Snippet<'_>) -> Result<(), AllocError>
+        ensures { (bytes : List ℕ) → IsLineAt bytes (list.row_of fault) line → IsSnippet bytes fault snippet.entry
             → OnOk result (HasOneMore bytes fault self.old self.new) }
     {
-        push_fault(&mut self.text, self.path, line, fault, below)?;
+        push_fault(&mut self.text, self.path, line, fault, snippet)?;
         self.faults.push(fault)?;
         Ok(())
     }
@@ -122,14 +122,14 @@ impl<'a> FaultLines<'a> {
         ensures { (bytes : List ℕ) → IsRowOf bytes row.now → list.row_of fault ≡ Some row.now.number
             → OnOk result (HasOneMore bytes fault self.old self.new) }
     {
-        self.add(row.place.line, fault, below_row(row, fault))
+        self.add(row.place.line, fault, row_snippet(row, fault))
     }
 
     /// Adds that the first record of these bytes is no header.
     pub(crate) fn add_header(&mut self, bytes: &[u8]) -> Result<(), AllocError>
         ensures { OnOk result (HasOneMore bytes.now RecordFault.Header self.old self.new) }
     {
-        self.add(1, RecordFault::Header, below_header(bytes))
+        self.add(1, RecordFault::Header, header_snippet(bytes))
     }
 
     /// Adds that there is a row too many, which begins on this line.
@@ -137,6 +137,6 @@ impl<'a> FaultLines<'a> {
         ensures { (bytes : List ℕ) → IsLineAt bytes (list.row_of RecordFault.TooManyRows) line
             → OnOk result (HasOneMore bytes RecordFault.TooManyRows self.old self.new) }
     {
-        self.add(line, RecordFault::TooManyRows, Below::Nothing)
+        self.add(line, RecordFault::TooManyRows, Snippet::Nothing)
     }
 }

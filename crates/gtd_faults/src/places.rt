@@ -3,12 +3,12 @@
 ghost use Rattle.std.specs.Prelude.{◌≡◌, ◌≤◌, ◌+◌, ℕ, true, List, IfOk, IfSome, OnOk};
 ghost use Rattle.csv.specs.Records.{fields_of};
 ghost use Rattle.gtd_records.specs.Columns.{Fields};
-ghost use Rattle.gtd_faults.specs.Below.{IsOfField, IsOfRowAt};
+ghost use Rattle.gtd_faults.specs.Snippet.{IsOfField, IsOfRowAt};
 ghost use Rattle.gtd_faults.specs.Places.{IsLine, IsLineAt, field_of};
 ghost use Rattle.gtd_faults.specs.Standing.{HasGiven, IsRowOf, StandsAt};
 
-use crate::below::Below;
 use crate::row::Row;
+use crate::snippet::Snippet;
 use csv::{ByteRecord, Reader};
 use gtd_lines::Place;
 use gtd_records::{next_row, table};
@@ -150,22 +150,22 @@ impl<'a> Rows<'a> {
 
     /// What is shown of the field with this index, from 0 on: its stretch around the place, with a caret below the byte
     /// there. It is nothing if the row has no such field, or the field ends before the place.
-    pub fn field(&self, index: usize, place: usize) -> Below<'_>
+    pub fn field(&self, index: usize, place: usize) -> Snippet<'_>
         ensures field { (bytes : List ℕ) (number : ℕ) → StandsAt bytes number self.now
             → IsOfField (field_of bytes number index) place result }
     {
         if !self.found {
-            return Below::Nothing;
+            return Snippet::Nothing;
         }
         self.here().field(index, place)
     }
 
     /// What is shown of the whole row: its first line, and how many fields it has. It is nothing if there is no such row.
-    pub fn row(&self) -> Below<'_>
+    pub fn row(&self) -> Snippet<'_>
         ensures row { (bytes : List ℕ) (number : ℕ) → StandsAt bytes number self.now → IsOfRowAt bytes number result }
     {
         if !self.found {
-            return Below::Nothing;
+            return Snippet::Nothing;
         }
         self.here().whole()
     }

@@ -1,8 +1,8 @@
 //! The stretch of a text that is shown.
 
 ghost use Rattle.std.specs.Prelude.{◌≡◌, ◌≤◌, ◌+◌, ℕ, Some, flat_map, length};
-ghost use Rattle.gtd_faults.specs.Below as spec;
-ghost use Rattle.gtd_faults.specs.Below.{IsAround, blanks, caret_text, fit, fit_back, stretch_text};
+ghost use Rattle.gtd_faults.specs.Snippet as spec;
+ghost use Rattle.gtd_faults.specs.Snippet.{IsAround, blanks, caret_text, fit, fit_back, stretch_text};
 ghost use Rattle.gtd_faults.specs.Printable.{shown_byte};
 
 use crate::printable::{Printable, is_printable};

@@ -8,7 +8,8 @@ use Rattle.gtd_calendar.specs.Calendar.{AreFieldsOf, day_number}
 use Rattle.gtd_hours.specs.Moving.{IsInMoving, IsMovedFrom}
 use Rattle.gtd_hours.specs.Ranges.{end_of}
 use Rattle.gtd_hours.specs.declared.hours.Selector.{Selector}
-use Rattle.gtd_hours.specs.declared.hours.Selector.TheVariants.{Years, Months, Dates, Dated, Weeks, Weekdays, Nth, NthBack, Moved, Moving}
+use Rattle.gtd_hours.specs.declared.hours.Selector.TheVariants.{Years, Months, Dates, Dated, Weeks, Weekdays, Nth, NthBack}
+use Rattle.gtd_hours.specs.declared.hours.Selector.TheVariants.{Moved, Moving}
 use Rattle.gtd_hours.specs.declared.hours.Kind.{Kind}
 use Rattle.gtd_hours.specs.declared.hours.TimeRange.{TimeRange}
 use Rattle.gtd_hours.specs.declared.hours.Link.{Link}

@@ -1,6 +1,7 @@
 //! Whether two ends are in the same order each year.
 
-ghost use Rattle.std.specs.Prelude.{◌≡◌, ◌↔◌, ◌||◌, ◌≤◌, ◌<◌, ◌+ℤ◌, ◌≤ℤ◌, ◌<ℤ◌, if◌then◌else◌, true, ℕ, ℤ, pos, IfSome, IsSome, IsTrue, Bool};
+ghost use Rattle.std.specs.Prelude.{◌≡◌, ◌↔◌, ◌||◌, ◌≤◌, ◌<◌, ◌+ℤ◌, ◌≤ℤ◌, ◌<ℤ◌, if◌then◌else◌, true, ℕ, ℤ, pos};
+ghost use Rattle.std.specs.Prelude.{IfSome, IsSome, IsTrue, Bool};
 ghost use Rattle.gtd_hours.specs.Moving.{IsMoving, is_place, is_yearly, last_year};
 ghost use Rattle.gtd_hours.specs.ComputedPlaces.{IsInOrder, end_day};
 

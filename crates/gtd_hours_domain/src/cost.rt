@@ -2,7 +2,8 @@
 
 ghost use Rattle.std.specs.Prelude.{◌≡◌, ◌+◌, ◌≤◌, max};
 ghost use Rattle.gtd_hours.specs.Cost.{cost_after, cost_by, counted, dates_cost, days_cost, early_cost, hours_cost, kinds_cost};
-ghost use Rattle.gtd_hours.specs.Cost.{late_cost, month_cost, moved_cost, moving_cost, rule_cost, selector_cost, selectors_cost, spans_cost};
+ghost use Rattle.gtd_hours.specs.Cost.{late_cost, month_cost, moved_cost, moving_cost, rule_cost, selector_cost, selectors_cost};
+ghost use Rattle.gtd_hours.specs.Cost.{spans_cost};
 ghost use Rattle.gtd_hours.specs.Cost.{steps_cost, weeks_cost, years_cost};
 
 use crate::dates::{is_one_stretch, month_after};

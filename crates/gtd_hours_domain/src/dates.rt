@@ -9,7 +9,8 @@ ghost use Rattle.gtd_hours.specs.Cost.{dates_cost, month_after, month_cost};
 ghost use Rattle.gtd_hours.specs.Opening.{IsRound, date_key};
 ghost use Rattle.gtd_hours.specs.Ranges.{IsMonth, IsMonthDay};
 ghost use Rattle.gtd_hours_domain.specs.Translation.{clocked, no_duration, on_month_day};
-ghost use Rattle.gtd_hours_domain.specs.Translation.{AreDays, HoldsAt, InMaybe, IsMonthBetween, maybe_leaves, minutes_of, moved_day};
+ghost use Rattle.gtd_hours_domain.specs.Translation.{AreDays, HoldsAt, InMaybe, IsMonthBetween, maybe_leaves, minutes_of};
+ghost use Rattle.gtd_hours_domain.specs.Translation.{moved_day};
 ghost use Rattle.gtd_hours.specs.declared.hours.Selector.TheVariants as selector;
 
 use crate::clock::Clock;

@@ -7,7 +7,8 @@ ghost use Rattle.gtd_calendar.specs.ComputedFields.{day_fields};
 ghost use Rattle.gtd_recur.specs.FieldMatches.{HoldsOnDay};
 ghost use Rattle.gtd_spans.specs.Normal.{Combined};
 ghost use Rattle.gtd_eval.specs.Membership.{InTree};
-ghost use Rattle.gtd_hours_domain.specs.Translation.{AreDayParts, AreDays, InMaybe, IsSet, clocked, maybe_leaves, minutes_of, moved_place};
+ghost use Rattle.gtd_hours_domain.specs.Translation.{AreDayParts, AreDays, InMaybe, IsSet, clocked, maybe_leaves, minutes_of};
+ghost use Rattle.gtd_hours_domain.specs.Translation.{moved_place};
 
 use crate::clock::Clock;
 use gtd_core::{Basic, Duration, DurationParts, Expr, Op, Start, StartParts};

@@ -1,7 +1,7 @@
 //! The time domain of opening hours.
 //!
-//! `domain_of` answers the domain with exactly the seconds at which hours are open, and `cost_of` how many basic domains that takes,
-//! without taking memory.
+//! `domain_of` answers the domain with exactly the seconds at which hours are open, and `cost_of` how many basic domains that
+//! takes, without taking memory.
 #![tactic(auto)]
 
 pub use clock::Clock;

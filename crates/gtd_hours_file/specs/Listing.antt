@@ -1,27 +1,19 @@
 -- The list of all faults of a file of hours, in words.
 use Rattle.std.specs.Prelude.{◌≡◌, ◌+◌, ◌++◌, ℕ, List, [], ◌∷◌, codes, decimal, Option, Some, None}
 use Rattle.gtd_core.specs.Limits.{most_rows}
+use Rattle.gtd_hours_grammar.specs.KindNames.{kind_name}
 use Rattle.gtd_hours_grammar.specs.declared.fault.FaultKind.{FaultKind}
 use Rattle.gtd_hours_grammar.specs.declared.fault.FaultKind.TheVariants as kind
-use Rattle.gtd_faults.specs.Below.{IsOfField, IsOfHeader, IsOfRowAt, below_text}
+use Rattle.gtd_faults.specs.Snippet.{IsOfField, IsOfHeader, IsOfRowAt, snippet_text}
 use Rattle.gtd_faults.specs.Expected.{accepted_bytes, accepted_count, accepted_direction, accepted_element, accepted_rows}
 use Rattle.gtd_faults.specs.Expected.{accepted_types, expected_line}
 use Rattle.gtd_faults.specs.Hints.{first_line}
 use Rattle.gtd_faults.specs.Listing.{line_text}
 use Rattle.gtd_faults.specs.Places.{IsLineAt, field_of}
-use Rattle.gtd_faults.specs.declared.below.Below.{Below}
-use Rattle.gtd_faults.specs.declared.below.Below.TheVariants as below
+use Rattle.gtd_faults.specs.declared.snippet.Snippet.{Snippet}
+use Rattle.gtd_faults.specs.declared.snippet.Snippet.TheVariants as snippet
 use Rattle.gtd_hours_file.specs.declared.fault.HoursFileFault.{HoursFileFault}
 use Rattle.gtd_hours_file.specs.declared.fault.HoursFileFault.TheVariants as fault
-
--- what is wrong with a text of hours
-abbrev pub kind_name : FaultKind → List ℕ
-kind_name kind.BadToken = codes "BadToken"
-kind_name kind.Unsupported = codes "Unsupported"
-kind_name kind.Range = codes "Range"
-kind_name kind.Years = codes "Years"
-kind_name kind.Unexpected = codes "Unexpected"
-kind_name kind.Incomplete = codes "Incomplete"
 
 -- the words of a fault: its row, if it has one; its kind; and for a fault of hours, the place
 abbrev pub fault_text : HoursFileFault → List ℕ
@@ -43,15 +35,15 @@ expected_text = codes "element,direction,vehicles,hours"
 -- What is shown below the line of a fault of a file with these bytes: the field in the column at fault, around the place in
 -- a text of hours or from its first byte on; a row with too few or too many fields; if the file has no header, its first line,
 -- and the header that is expected; otherwise nothing.
-abbrev pub IsBelow : List ℕ → HoursFileFault → Below → Type 0
-IsBelow bytes (fault.FieldCount row) shown = IsOfRowAt bytes row shown
-IsBelow bytes (fault.Element row) shown = IsOfField (field_of bytes row 0) 0 shown
-IsBelow bytes (fault.Direction row) shown = IsOfField (field_of bytes row 1) 0 shown
-IsBelow bytes (fault.Vehicle row) shown = IsOfField (field_of bytes row 2) 0 shown
-IsBelow bytes (fault.Hours row why) shown = IsOfField (field_of bytes row 3) why.place shown
-IsBelow bytes (fault.TooMany row) shown = IsOfField (field_of bytes row 3) 0 shown
-IsBelow bytes fault.Header shown = IsOfHeader (first_line bytes) expected_text None shown
-IsBelow bytes why shown = shown ≡ below.Nothing
+abbrev pub IsSnippet : List ℕ → HoursFileFault → Snippet → Type 0
+IsSnippet bytes (fault.FieldCount row) shown = IsOfRowAt bytes row shown
+IsSnippet bytes (fault.Element row) shown = IsOfField (field_of bytes row 0) 0 shown
+IsSnippet bytes (fault.Direction row) shown = IsOfField (field_of bytes row 1) 0 shown
+IsSnippet bytes (fault.Vehicle row) shown = IsOfField (field_of bytes row 2) 0 shown
+IsSnippet bytes (fault.Hours row why) shown = IsOfField (field_of bytes row 3) why.place shown
+IsSnippet bytes (fault.TooMany row) shown = IsOfField (field_of bytes row 3) 0 shown
+IsSnippet bytes fault.Header shown = IsOfHeader (first_line bytes) expected_text None shown
+IsSnippet bytes why shown = shown ≡ snippet.Nothing
 
 -- what hours may have where a fault of this kind is
 abbrev pub accepted_hours : FaultKind → List ℕ
@@ -78,8 +70,8 @@ accepted fault.TooLarge = Some accepted_bytes
 accepted fault.Header = None
 
 -- the lines below that of a fault: what is shown of the file, and what is accepted there
-abbrev pub lines_below : HoursFileFault → Below → List ℕ
-lines_below why below = below_text below ++ expected_line (accepted why)
+abbrev pub snippet_lines : HoursFileFault → Snippet → List ℕ
+snippet_lines why snippet = snippet_text snippet ++ expected_line (accepted why)
 
 -- the row that a fault is of, if it is of one; `TooManyRows` is of the first row too many
 abbrev pub row_of : HoursFileFault → Option ℕ
@@ -96,5 +88,5 @@ row_of why = None
 abbrev pub AreLines : List ℕ → List ℕ → List HoursFileFault → List ℕ → Type 0
 AreLines path bytes [] text = text ≡ []
 AreLines path bytes (why ∷ rest) text =
-    (line : ℕ) × IsLineAt bytes (row_of why) line × (below : Below) × IsBelow bytes why below × (after : List ℕ)
-    × AreLines path bytes rest after × (text ≡ line_text path line (fault_text why) ++ lines_below why below ++ after)
+    (line : ℕ) × IsLineAt bytes (row_of why) line × (snippet : Snippet) × IsSnippet bytes why snippet × (after : List ℕ)
+    × AreLines path bytes rest after × (text ≡ line_text path line (fault_text why) ++ snippet_lines why snippet ++ after)

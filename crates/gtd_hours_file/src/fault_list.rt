@@ -4,12 +4,12 @@ ghost use Rattle.std.specs.Prelude.{◌≡◌, ◌++◌, ℕ, IfOk, IfSome, OnOk
 ghost use Rattle.gtd_faults.specs.Listing.{line_text};
 ghost use Rattle.gtd_faults.specs.Standing.{StandsAt};
 ghost use Rattle.gtd_hours_file.specs.Listing as list;
-ghost use Rattle.gtd_hours_file.specs.Listing.{AreLines, IsBelow, fault_text, lines_below};
+ghost use Rattle.gtd_hours_file.specs.Listing.{AreLines, IsSnippet, fault_text, snippet_lines};
 
 use crate::fault::HoursFileFault;
 use crate::words::{HoursFaultText, accepted};
 use gtd_core::limits::MOST_ROWS;
-use gtd_faults::{Below, Expected, Printable, Rows, Stretch, first_line};
+use gtd_faults::{Expected, Printable, Rows, Snippet, Stretch, first_line};
 use std::alloc::{AllocError, Global};
 
 // The row of a fault, if it has one.
@@ -31,12 +31,12 @@ fn row_of(fault: HoursFileFault) -> Option<u32>
 
 // What is shown below the line of a fault, if the rows stand at its row: of a field in it, of the row, or of the file's first
 // line if that is no header.
-fn below_fault<'a>(bytes: &'a [u8], rows: &'a Rows<'_>, fault: HoursFileFault) -> Below<'a>
-    ensures below { (number : ℕ) → StandsAt bytes.now number rows.now → IfSome (list.row_of fault) (λ row. number ≡ row)
-        → IsBelow bytes.now fault result }
+fn fault_snippet<'a>(bytes: &'a [u8], rows: &'a Rows<'_>, fault: HoursFileFault) -> Snippet<'a>
+    ensures snippet { (number : ℕ) → StandsAt bytes.now number rows.now → IfSome (list.row_of fault) (λ row. number ≡ row)
+        → IsSnippet bytes.now fault result }
 {
     match fault {
-        HoursFileFault::Header => Below::Header {
+        HoursFileFault::Header => Snippet::Header {
             found: Stretch::around(first_line(bytes), 0),
             expected: "element,direction,vehicles,hours",
             hint: None,
@@ -47,7 +47,7 @@ fn below_fault<'a>(bytes: &'a [u8], rows: &'a Rows<'_>, fault: HoursFileFault) -
         HoursFileFault::Vehicle { .. } => rows.field(2, 0),
         HoursFileFault::Hours { fault, .. } => rows.field(3, fault.place),
         HoursFileFault::TooMany { .. } => rows.field(3, 0),
-        _ => Below::Nothing,
+        _ => Snippet::Nothing,
     }
 }
 
@@ -57,15 +57,15 @@ fn push_fault(
     path: &str,
     line: u64,
     fault: HoursFileFault,
-    below: Below<'_>,
+    snippet: Snippet<'_>,
 ) -> Result<(), AllocError>
     ensures { OnOk result (string_bytes text.new
-        ≡ string_bytes text.old ++ (line_text path.now line (fault_text fault) ++ lines_below fault below.entry)) }
+        ≡ string_bytes text.old ++ (line_text path.now line (fault_text fault) ++ snippet_lines fault snippet.entry)) }
 {
     let path = Printable(path.as_bytes());
     let words = HoursFaultText(fault);
     let expected = Expected(accepted(fault));
-    write!(text, "{path}:{line}: {words}\n{below}{expected}")
+    write!(text, "{path}:{line}: {words}\n{snippet}{expected}")
 }
 
 /// The lines of these faults, in order, for the file with this path and these bytes.
@@ -81,8 +81,8 @@ pub(crate) fn lines_of(
     let mut rows = Rows::new(alloc, bytes)?;
     for fault in faults {
         let line = rows.line_at(row_of(*fault))?;
-        let below = below_fault(bytes, &rows, *fault);
-        push_fault(&mut text, path, line, *fault, below)?;
+        let snippet = fault_snippet(bytes, &rows, *fault);
+        push_fault(&mut text, path, line, *fault, snippet)?;
     }
     Ok(text)
 }

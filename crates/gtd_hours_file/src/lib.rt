@@ -7,7 +7,9 @@
 #![tactic(auto)]
 
 pub use fault::HoursFileFault;
-pub use refused::{RefusedBelow, below_ambiguous, below_domain, below_hours, below_too_many};
+pub use refused::{
+    RefusalSnippet, ambiguous_snippet, domain_snippet, hours_snippet, too_many_snippet,
+};
 pub use row::HoursRow;
 pub use run::run_hours_records;
 pub use translated::Translated;

@@ -2,7 +2,7 @@
 
 ghost use Rattle.std.specs.Prelude.{◌≡◌, Some, option_map};
 ghost use Rattle.gtd_hours_file.specs.Listing as spec;
-ghost use Rattle.gtd_hours_file.specs.Listing.{fault_text, kind_name};
+ghost use Rattle.gtd_hours_file.specs.Listing.{fault_text};
 
 use crate::fault::HoursFileFault;
 use gtd_faults::accepted as accepted_of_record;
@@ -10,20 +10,6 @@ use gtd_hours_grammar::FaultKind;
 use gtd_records::RecordFault;
 use std::fmt;
 use std::fmt::{Display, Formatter};
-
-// What is wrong with a text of hours.
-fn kind_name(kind: FaultKind) -> &'static str
-    ensures { result.now ≡ kind_name kind }
-{
-    match kind {
-        FaultKind::BadToken => "BadToken",
-        FaultKind::Unsupported => "Unsupported",
-        FaultKind::Range => "Range",
-        FaultKind::Years => "Years",
-        FaultKind::Unexpected => "Unexpected",
-        FaultKind::Incomplete => "Incomplete",
-    }
-}
 
 /// A fault in words: its row, if it has one; its kind; and for a fault of hours, the place.
 #[derive(Clone, Copy)]
@@ -41,7 +27,7 @@ impl Display for HoursFaultText {
             HoursFileFault::Direction { row } => write!(f, "row {row}: Direction"),
             HoursFileFault::Vehicle { row } => write!(f, "row {row}: Vehicle"),
             HoursFileFault::Hours { row, fault } => {
-                let kind = kind_name(fault.kind);
+                let kind = fault.kind.name();
                 let place = fault.place;
                 write!(f, "row {row}: Hours {kind} at {place}")
             }

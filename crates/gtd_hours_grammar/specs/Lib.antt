@@ -6,5 +6,6 @@ pub mod Moves
 pub mod Runs
 pub mod Faults
 pub mod Kinds
+pub mod KindNames
 pub mod Steps
 pub mod facts

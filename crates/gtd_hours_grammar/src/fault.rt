@@ -1,5 +1,8 @@
 //! The faults of texts of opening hours.
 
+ghost use Rattle.std.specs.Prelude.{◌≡◌};
+ghost use Rattle.gtd_hours_grammar.specs.KindNames.{kind_name};
+
 use thiserror::Error;
 
 /// What is wrong with a text.
@@ -23,6 +26,22 @@ pub enum FaultKind {
     /// The text ends too early.
     #[error("Incomplete")]
     Incomplete,
+}
+
+impl FaultKind {
+    /// The kind in a word, as the programs print it.
+    pub fn name(self) -> &'static str
+        ensures { result.now ≡ kind_name self }
+    {
+        match self {
+            FaultKind::BadToken => "BadToken",
+            FaultKind::Unsupported => "Unsupported",
+            FaultKind::Range => "Range",
+            FaultKind::Years => "Years",
+            FaultKind::Unexpected => "Unexpected",
+            FaultKind::Incomplete => "Incomplete",
+        }
+    }
 }
 
 /// The first fault of a text.

@@ -11,7 +11,7 @@ ghost use Rattle.gtd_hours_loose_tokens.specs.Clock.{minute_of, number_front, up
 
 use crate::runs::{after_spaces, space_count};
 use crate::token::LooseKind;
-use gtd_scan::{after_digits, digits_at_front, digits_value, letters_at_front};
+use gtd_scan::{after_digits, digits_at_front, digits_value, letters_at_front, two_digits_value};
 
 /// The number or the time that begins with this longest run of digits and goes on with these bytes, and its length.
 pub fn digits_front(digits: &[u8], rest: &[u8]) -> Option<(LooseKind, usize)>
@@ -41,7 +41,7 @@ fn few_digits(digits: &[u8], rest: &[u8]) -> Option<(LooseKind, usize)>
     match minute_front(rest) {
         None => hour_or_number(digits, rest),
         Some((minute, taken)) => {
-            let hour = two_digits(digits);
+            let hour = two_digits_value(digits);
             clock_front(hour, minute, digits.len() + taken, &rest[taken..])
         }
     }
@@ -57,7 +57,7 @@ fn hour_or_number(digits: &[u8], rest: &[u8]) -> Option<(LooseKind, usize)>
     ensures within { IfSome result (λ x. x.1 ≤ length digits.now + length rest.now) }
 {
     if is_morning(rest) || is_evening(rest) {
-        clock_front(two_digits(digits), 0, digits.len(), rest)
+        clock_front(two_digits_value(digits), 0, digits.len(), rest)
     } else {
         number_front(digits, rest)
     }
@@ -185,7 +185,7 @@ fn minute_of(sign: u8, minute: &[u8], rest: &[u8]) -> Option<(u8, usize)>
     ensures { result ≡ minute_of sign minute.now rest.now }
 {
     if minute.len() == 2 && !begins_part(sign, rest) {
-        Some((two_digits(minute), 3))
+        Some((two_digits_value(minute), 3))
     } else {
         None
     }
@@ -201,7 +201,7 @@ fn hour_letter(minute: &[u8], rest: &[u8]) -> Option<(u8, usize)>
     }
     match minute.len() {
         0 => Some((0, 1)),
-        2 => Some((two_digits(minute), 3)),
+        2 => Some((two_digits_value(minute), 3)),
         _ => None,
     }
 }
@@ -232,13 +232,4 @@ fn begins_part(sign: u8, bytes: &[u8]) -> bool
         [] => false,
         [byte, rest @ ..] => *byte == sign && begins_digit(rest),
     }
-}
-
-fn two_digits(digits: &[u8]) -> u8
-    requires two { length digits.now ≤ 2 }
-    requires all { list_all is_ascii_digit digits.now ≡ true }
-    ensures value { result ≡ digits_value 10 digits.now }
-    ensures small { result < 100 }
-{
-    digits_value(digits) as u8
 }

@@ -1,7 +1,7 @@
 //! Opening hours of OpenStreetMap as texts: the hours that a text stands for.
 //!
-//! A text is read once: the hours are built piece by piece, up to its first fault. Where memory ends before the text, what is left
-//! of it is only checked.
+//! A text is read once: the hours are built piece by piece, up to its first fault. Where memory ends before the text, what is
+//! left of it is only checked.
 #![tactic(auto)]
 
 mod additions;

@@ -3,12 +3,12 @@
 ghost use Rattle.std.specs.Prelude.{◌≡◌, length, true};
 ghost use Rattle.std.specs.Char.{is_ascii_digit};
 ghost use Rattle.std.specs.List.{list_all};
-ghost use Rattle.std.specs.Str.Parse.{digits_value};
+ghost use Rattle.std.specs.Str.Parse.{digits_value, two_digits_value};
 ghost use Rattle.gtd_hours_tokens.specs.Lexing.{begins_minutes};
 ghost use Rattle.gtd_hours_tokens.specs.TokenAt.{number, number_front, time, time_front};
 
 use crate::token::TokenKind;
-use gtd_scan::{after_digits, digits_at_front, digits_value};
+use gtd_scan::{after_digits, digits_at_front, digits_value, two_digits_value};
 
 /// The number or the time that begins with this longest run of digits and goes on with these bytes, and its length.
 pub fn number_front(digits: &[u8], rest: &[u8]) -> Option<(TokenKind, usize)>
@@ -63,16 +63,8 @@ fn time(hour: &[u8], minute: &[u8], rest: &[u8]) -> Option<(TokenKind, usize)>
         return None;
     }
     let kind = TokenKind::Time {
-        hour: two_digits(hour),
-        minute: two_digits(minute),
+        hour: two_digits_value(hour),
+        minute: two_digits_value(minute),
     };
     Some((kind, 5))
-}
-
-fn two_digits(digits: &[u8]) -> u8
-    requires two { length digits.now ≡ 2 }
-    requires all { list_all is_ascii_digit digits.now ≡ true }
-    ensures { result ≡ digits_value 10 digits.now }
-{
-    digits_value(digits) as u8
 }

@@ -9,6 +9,6 @@ mod numbers;
 mod runs;
 mod spaces;
 
-pub use numbers::digits_value;
+pub use numbers::{digits_value, two_digits_value};
 pub use runs::{after_digits, after_letters, digits_at_front, letters_at_front};
 pub use spaces::after_spaces;

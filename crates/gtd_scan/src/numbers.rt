@@ -18,3 +18,13 @@ pub fn digits_value(digits: &[u8]) -> u16
     }
     number
 }
+
+/// The number that one or two decimal digits stand for; 0 for none.
+pub fn two_digits_value(digits: &[u8]) -> u8
+    requires few { length digits.now ≤ 2 }
+    requires all { list_all is_ascii_digit digits.now ≡ true }
+    ensures value { result ≡ digits_value 10 digits.now }
+    ensures small { result < 100 }
+{
+    digits_value(digits) as u8
+}

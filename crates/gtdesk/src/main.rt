@@ -11,8 +11,8 @@
 use gtd_devices::{Host, HostOut, InputFault, read_whole};
 use gtdesk_tool::{
     DiffPlan, Ending, Files, LineRefusal, Moment, OnePlan, Plan, Refusal, RefusalLines, RunRefusal,
-    Turn, WordsRefusal, ZonePlan, below_refusal, joined, moment_in_zone, no_zone, perform,
-    perform_ask, perform_diff, plan, refused_file, zone_path,
+    Turn, WordsRefusal, ZonePlan, joined, moment_in_zone, no_zone, perform, perform_ask,
+    perform_diff, plan, refused_file, word_snippet, zone_path,
 };
 use std::fs::File;
 use std::io::{BufWriter, ErrorKind, Read};
@@ -217,11 +217,11 @@ fn status_of(answer: Result<Ending, RunRefusal>) -> ExitCode {
 
 // Writes the lines of a refusal about this file or this text. If standard error fails, the status stays the same.
 fn tell(rt: &HostRuntime, refusal: Refusal, file: &str, text: &str) {
-    let below = below_refusal(text, refusal);
+    let snippet = word_snippet(text, refusal);
     let _ = rt.eprint(&RefusalLines {
         refusal,
         file,
-        below,
+        snippet,
     });
 }
 

@@ -8,10 +8,9 @@ use Rattle.gtd_core.specs.declared.horizon.HorizonFault.{HorizonFault}
 use Rattle.gtd_core.specs.declared.horizon.HorizonFault.TheVariants as horizon
 use Rattle.gtd_faults.specs.Listing.{fault_text}
 use Rattle.gtd_faults.specs.Printable.{printable}
-use Rattle.gtd_hours_file.specs.Refused.{refused_below}
-use Rattle.gtd_hours_file.specs.declared.refused.RefusedBelow.{RefusedBelow}
-use Rattle.gtd_hours_grammar.specs.declared.fault.FaultKind.{FaultKind}
-use Rattle.gtd_hours_grammar.specs.declared.fault.FaultKind.TheVariants as kind
+use Rattle.gtd_hours_file.specs.Refused.{refusal_snippet}
+use Rattle.gtd_hours_file.specs.declared.refused.RefusalSnippet.{RefusalSnippet}
+use Rattle.gtd_hours_grammar.specs.KindNames.{kind_name}
 use Rattle.gtdesk_words.specs.declared.refusal.NoDomain.{NoDomain}
 use Rattle.gtdesk_words.specs.declared.refusal.NoDomain.TheVariants as none
 use Rattle.gtdesk_words.specs.declared.refusal.Reason.{Reason}
@@ -44,15 +43,6 @@ abbrev pub date_reason : StampFault → List ℕ
 date_reason moment.Shape = codes "not of the form YYYY-MM-DD"
 date_reason moment.NoSuchDate = codes "no such date"
 date_reason moment.Range = codes "not from 1901-01-01 to 2700-01-01"
-
--- what is wrong with a text of opening hours
-abbrev pub kind_name : FaultKind → List ℕ
-kind_name kind.BadToken = codes "BadToken"
-kind_name kind.Unsupported = codes "Unsupported"
-kind_name kind.Range = codes "Range"
-kind_name kind.Years = codes "Years"
-kind_name kind.Unexpected = codes "Unexpected"
-kind_name kind.Incomplete = codes "Incomplete"
 
 -- why it has no domain: its first fault and the place, or that the domain is too large
 abbrev pub no_domain_text : NoDomain → List ℕ
@@ -140,6 +130,6 @@ run_text file run.Write = codes "standard output: cannot be written"
 run_text file run.Memory = codes "memory: refused by the system"
 
 -- the line, which says where the fault is and what it is, and below it what is shown
-abbrev pub refusal_lines : List ℕ → Refusal → RefusedBelow → List ℕ
-refusal_lines file (refusal.Words why) shown = codes "gtdesk: " ++ (words_text why ++ (codes "\n" ++ refused_below shown))
-refusal_lines file (refusal.Run why) shown = codes "gtdesk: " ++ (run_text file why ++ (codes "\n" ++ refused_below shown))
+abbrev pub refusal_lines : List ℕ → Refusal → RefusalSnippet → List ℕ
+refusal_lines file (refusal.Words why) shown = codes "gtdesk: " ++ (words_text why ++ (codes "\n" ++ refusal_snippet shown))
+refusal_lines file (refusal.Run why) shown = codes "gtdesk: " ++ (run_text file why ++ (codes "\n" ++ refusal_snippet shown))

@@ -1,11 +1,11 @@
 -- What is shown below the line of a refusal.
 use Rattle.std.specs.Prelude.{◌≡◌, ℕ, List, Some, None, get_or, option_map}
-use Rattle.gtd_faults.specs.Below.{IsOfField}
+use Rattle.gtd_faults.specs.Snippet.{IsOfField}
 use Rattle.gtd_faults.specs.Expected as of_records
-use Rattle.gtd_faults.specs.declared.below.Below.TheVariants as below
+use Rattle.gtd_faults.specs.declared.snippet.Snippet.TheVariants as snippet
 use Rattle.gtd_hours_file.specs.Listing as of_hours
 use Rattle.gtd_hours_file.specs.Refused.{accepted_once}
-use Rattle.gtd_hours_file.specs.declared.refused.RefusedBelow.{RefusedBelow}
+use Rattle.gtd_hours_file.specs.declared.refused.RefusalSnippet.{RefusalSnippet}
 use Rattle.gtd_records.specs.declared.fault.RecordFault.TheVariants as records
 use Rattle.gtdesk_words.specs.declared.refusal.NoDomain.{NoDomain}
 use Rattle.gtdesk_words.specs.declared.refusal.NoDomain.TheVariants as none
@@ -18,35 +18,35 @@ use Rattle.gtdesk_tool.specs.declared.refusal.RunRefusal.{RunRefusal}
 use Rattle.gtdesk_tool.specs.declared.refusal.RunRefusal.TheVariants as run
 
 -- nothing
-abbrev pub IsNothing : RefusedBelow → Type 0
-IsNothing shown = (shown.below ≡ below.Nothing) × (shown.accepted ≡ None)
+abbrev pub IsNothing : RefusalSnippet → Type 0
+IsNothing shown = (shown.snippet ≡ snippet.Nothing) × (shown.accepted ≡ None)
 
 -- the stretch of the text around a place, with a caret, and these words of what is accepted there
-abbrev pub IsAt : List ℕ → ℕ → List ℕ → RefusedBelow → Type 0
+abbrev pub IsAt : List ℕ → ℕ → List ℕ → RefusalSnippet → Type 0
 IsAt text place accepted shown =
-    IsOfField (Some text) place shown.below × (option_map (λ w. w.now) shown.accepted ≡ Some accepted)
+    IsOfField (Some text) place shown.snippet × (option_map (λ w. w.now) shown.accepted ≡ Some accepted)
 
 -- what is shown of a text of opening hours without a domain
-abbrev pub IsOfHours : List ℕ → NoDomain → RefusedBelow → Type 0
+abbrev pub IsOfHours : List ℕ → NoDomain → RefusalSnippet → Type 0
 IsOfHours text (none.Fault why) shown = IsAt text why.place (of_hours.accepted_hours why.kind) shown
 IsOfHours text (none.Ambiguous place) shown = IsAt text place accepted_once shown
 IsOfHours text none.TooMany shown = IsAt text 0 of_hours.accepted_size shown
 
 -- what is shown of a word: of a time domain and of opening hours the text, of any other nothing
-abbrev pub IsOfWord : List ℕ → Reason → RefusedBelow → Type 0
+abbrev pub IsOfWord : List ℕ → Reason → RefusalSnippet → Type 0
 IsOfWord text (reason.Domain why) shown =
-    IsOfField (Some text) why.place shown.below
+    IsOfField (Some text) why.place shown.snippet
     × (option_map (λ w. w.now) shown.accepted
     ≡ of_records.accepted_at (records.Domain 1 why) (get_or text why.place 0))
 IsOfWord text (reason.Hours why) shown = IsOfHours text why shown
 IsOfWord text other shown = IsNothing shown
 
 -- what is shown of the text that a refusal is about
-abbrev pub IsOfRun : List ℕ → RunRefusal → RefusedBelow → Type 0
+abbrev pub IsOfRun : List ℕ → RunRefusal → RefusalSnippet → Type 0
 IsOfRun text (run.NoDomain why) shown = IsOfHours text why shown
 IsOfRun text other shown = IsNothing shown
 
-abbrev pub IsShownBelow : List ℕ → Refusal → RefusedBelow → Type 0
+abbrev pub IsShownBelow : List ℕ → Refusal → RefusalSnippet → Type 0
 IsShownBelow text (refusal.Words (words.Word fault)) shown = IsOfWord text fault.why shown
 IsShownBelow text (refusal.Words other) shown = IsNothing shown
 IsShownBelow text (refusal.Run why) shown = IsOfRun text why shown

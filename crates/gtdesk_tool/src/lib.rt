@@ -35,5 +35,5 @@ pub use gtdesk_words::{Moment, NoDomain, Reason, WordFault, WordName, WordsRefus
 pub use line::RefusalLines;
 pub use performer::{Turn, perform};
 pub use refusal::{Refusal, RunRefusal, refused_file};
-pub use shown::below_refusal;
+pub use shown::word_snippet;
 pub use zone::{moment_in_zone, no_zone};

@@ -2,15 +2,14 @@
 
 ghost use Rattle.std.specs.Prelude.{◌≡◌, Some};
 ghost use Rattle.gtdesk_tool.specs.Lines as spec;
-ghost use Rattle.gtdesk_tool.specs.Lines.{kind_name, no_domain_text, reason_text, refusal_lines, run_text, word_text, words_text};
+ghost use Rattle.gtdesk_tool.specs.Lines.{no_domain_text, reason_text, refusal_lines, run_text, word_text, words_text};
 
 use crate::refusal::{Refusal, RunRefusal};
 use gtd_ask::QuestionText;
 use gtd_calendar::StampFault;
 use gtd_core::HorizonFault;
 use gtd_faults::{FaultText, Printable};
-use gtd_hours_file::RefusedBelow;
-use gtd_hours_grammar::FaultKind;
+use gtd_hours_file::RefusalSnippet;
 use gtdesk_words::{NoDomain, Reason, WordFault, WordName, WordsRefusal};
 use std::fmt;
 use std::fmt::{Display, Formatter};
@@ -64,20 +63,6 @@ fn date_reason(fault: StampFault) -> &'static str
     }
 }
 
-// What is wrong with a text of opening hours.
-fn kind_name(kind: FaultKind) -> &'static str
-    ensures { result.now ≡ kind_name kind }
-{
-    match kind {
-        FaultKind::BadToken => "BadToken",
-        FaultKind::Unsupported => "Unsupported",
-        FaultKind::Range => "Range",
-        FaultKind::Years => "Years",
-        FaultKind::Unexpected => "Unexpected",
-        FaultKind::Incomplete => "Incomplete",
-    }
-}
-
 /// Why a text of opening hours has no domain.
 #[derive(Drop)]
 struct TextLine(NoDomain);
@@ -88,7 +73,7 @@ impl Display for TextLine {
     fn fmt<W: fmt::Write>(&self, f: &mut Formatter<W>) -> fmt::Result {
         match self.0 {
             NoDomain::Fault(fault) => {
-                let kind = kind_name(fault.kind);
+                let kind = fault.kind.name();
                 let place = fault.place;
                 write!(f, "{kind} at {place}")
             }
@@ -224,18 +209,18 @@ pub struct RefusalLines<'a, 'b> {
     /// The name of the record file that it is about, if it is about one.
     pub file: &'a str,
     /// What is shown below its line.
-    pub below: RefusedBelow<'b>,
+    pub snippet: RefusalSnippet<'b>,
 }
 
 impl Display for RefusalLines<'_, '_> {
-    ghost output = { λ lines. Some (refusal_lines lines.file.now lines.refusal lines.below) };
+    ghost output = { λ lines. Some (refusal_lines lines.file.now lines.refusal lines.snippet) };
 
     fn fmt<W: fmt::Write>(&self, f: &mut Formatter<W>) -> fmt::Result {
         let file = self.file;
-        let below = self.below;
+        let snippet = self.snippet;
         match self.refusal {
-            Refusal::Words(refusal) => write!(f, "gtdesk: {}\n{below}", WordsLine(refusal)),
-            Refusal::Run(refusal) => write!(f, "gtdesk: {}\n{below}", RunLine { refusal, file }),
+            Refusal::Words(refusal) => write!(f, "gtdesk: {}\n{snippet}", WordsLine(refusal)),
+            Refusal::Run(refusal) => write!(f, "gtdesk: {}\n{snippet}", RunLine { refusal, file }),
         }
     }
 }

@@ -3,44 +3,46 @@
 ghost use Rattle.gtdesk_tool.specs.Shown.{IsNothing, IsOfHours, IsOfRun, IsOfWord, IsShownBelow};
 
 use crate::refusal::{Refusal, RunRefusal};
-use gtd_faults::Below;
-use gtd_hours_file::{RefusedBelow, below_ambiguous, below_domain, below_hours, below_too_many};
+use gtd_faults::Snippet;
+use gtd_hours_file::{
+    RefusalSnippet, ambiguous_snippet, domain_snippet, hours_snippet, too_many_snippet,
+};
 use gtdesk_words::{NoDomain, Reason, WordsRefusal};
 
 // Nothing, of whatever text.
-fn nothing(_text: &str) -> RefusedBelow<'_>
+fn nothing(_text: &str) -> RefusalSnippet<'_>
     ensures { IsNothing result }
 {
-    RefusedBelow {
-        below: Below::Nothing,
+    RefusalSnippet {
+        snippet: Snippet::Nothing,
         accepted: None,
     }
 }
 
 // What is shown of a text of opening hours without a domain.
-fn of_hours(text: &str, why: NoDomain) -> RefusedBelow<'_>
+fn of_hours(text: &str, why: NoDomain) -> RefusalSnippet<'_>
     ensures { IsOfHours text.now why result }
 {
     match why {
-        NoDomain::Fault(fault) => below_hours(text, fault),
-        NoDomain::Ambiguous { place } => below_ambiguous(text, place),
-        NoDomain::TooMany => below_too_many(text),
+        NoDomain::Fault(fault) => hours_snippet(text, fault),
+        NoDomain::Ambiguous { place } => ambiguous_snippet(text, place),
+        NoDomain::TooMany => too_many_snippet(text),
     }
 }
 
 // What is shown of a word.
-fn of_word(text: &str, why: Reason) -> RefusedBelow<'_>
+fn of_word(text: &str, why: Reason) -> RefusalSnippet<'_>
     ensures { IsOfWord text.now why result }
 {
     match why {
-        Reason::Domain(fault) => below_domain(text, fault),
+        Reason::Domain(fault) => domain_snippet(text, fault),
         Reason::Hours(why) => of_hours(text, why),
         _ => nothing(text),
     }
 }
 
 // What is shown of the text that a plan reads.
-fn of_run(text: &str, why: RunRefusal) -> RefusedBelow<'_>
+fn of_run(text: &str, why: RunRefusal) -> RefusalSnippet<'_>
     ensures { IsOfRun text.now why result }
 {
     match why {
@@ -52,7 +54,7 @@ fn of_run(text: &str, why: RunRefusal) -> RefusedBelow<'_>
 /// What is shown below the line of a refusal: of a time domain or of opening hours the text, or a stretch of it around the place
 /// of its fault, with a caret, and what is accepted there; otherwise nothing. The text is the word that is refused, or that of
 /// the opening hours that the plan reads.
-pub fn below_refusal(text: &str, refusal: Refusal) -> RefusedBelow<'_>
+pub fn word_snippet(text: &str, refusal: Refusal) -> RefusalSnippet<'_>
     ensures shown { IsShownBelow text.now refusal result }
 {
     match refusal {

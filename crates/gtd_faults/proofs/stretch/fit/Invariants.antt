@@ -1,5 +1,5 @@
 use Rattle.std.proofs.Common.{◌≡◌, ◌+◌, drop}
-use Rattle.gtd_faults.specs.Below.{fit}
+use Rattle.gtd_faults.specs.Snippet.{fit}
 use Rattle.gtd_faults.proofs.stretch.fit.Given as goal
 
 -- what fits is what fitted so far and what of the rest fits into the columns that are left

@@ -1,5 +1,5 @@
 use Rattle.std.proofs.Common.{◌≡◌, ◌+◌, ◌-◌}
-use Rattle.gtd_faults.specs.Below.{fit_back}
+use Rattle.gtd_faults.specs.Snippet.{fit_back}
 use Rattle.gtd_faults.proofs.stretch.fit_back.Given as goal
 
 -- what fits is what fitted so far and what of the rest fits into the columns that are left

@@ -15,10 +15,10 @@ loop-fault-preserved c =
     let so_far = c.loop-fault.invariant in
     let at = c.in_ok-line.ensures.at bytes so_far.1 so_far.2 in
     let on = c.in_ok-line.ensures.line bytes so_far.1 so_far.2 in
-    let below = c.below_fault-below.ensures.below at.0 at.2 (rw c.row_of.ensures at at.1) in (
+    let snippet = c.fault_snippet-snippet.ensures.snippet at.0 at.2 (rw c.row_of.ensures at at.1) in (
       rw (next, c.in_ok-push_fault.ensures)
           (lines_more c.args.path.now bytes (take i c.args.faults.now) here (string_bytes c.loop-fault.text) c.in_ok-line.line
-          c.below_fault-below.result (rw c.row_of.ensures at on) below so_far.0),
+          c.fault_snippet-snippet.result (rw c.row_of.ensures at on) snippet so_far.0),
       at.0,
       at.2,
     )

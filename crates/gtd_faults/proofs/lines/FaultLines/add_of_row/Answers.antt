@@ -7,4 +7,4 @@ pub returns : goal.returns
 returns c = λ bytes is of.
     let row = c.args.row.now in
     c.add.ensures bytes (rw of (line_of_place bytes row.number row.place is.place))
-    (c.below_row.ensures.below bytes is (rw of refl))
+    (c.row_snippet.ensures.snippet bytes is (rw of refl))

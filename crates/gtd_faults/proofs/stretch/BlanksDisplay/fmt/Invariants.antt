@@ -1,7 +1,7 @@
 use Rattle.std.proofs.Common.{take}
 use Rattle.std.specs.Prelude.{flat_map, ℕ}
 use Rattle.std.specs.Fmt.{HasWritten, IsPlainFormatter}
-use Rattle.gtd_faults.specs.Below.{blanks}
+use Rattle.gtd_faults.specs.Snippet.{blanks}
 use Rattle.gtd_faults.specs.Printable.{shown_byte}
 use Rattle.gtd_faults.proofs.stretch.BlanksDisplay.fmt.Given as goal
 

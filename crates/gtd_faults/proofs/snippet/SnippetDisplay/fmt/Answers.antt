@@ -1,5 +1,5 @@
 -- Below a fault for its header or its whole row stands the text of just that case.
-use Rattle.gtd_faults.proofs.below.BelowDisplay.fmt.Goals as goal
+use Rattle.gtd_faults.proofs.snippet.SnippetDisplay.fmt.Goals as goal
 
 pub returns-in-Header-clause-writes : goal.returns-in-Header-clause-writes
 returns-in-Header-clause-writes g c = λ plain ok. rw c.in-Header.is (c.write-in-Header.ensures.writes plain ok)

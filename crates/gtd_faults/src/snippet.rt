@@ -1,8 +1,8 @@
 //! What is shown below the line of a fault.
 
 ghost use Rattle.std.specs.Prelude.{◌≡◌, Some};
-ghost use Rattle.gtd_faults.specs.Below as spec;
-ghost use Rattle.gtd_faults.specs.Below.{below_text};
+ghost use Rattle.gtd_faults.specs.Snippet as spec;
+ghost use Rattle.gtd_faults.specs.Snippet.{snippet_text};
 
 use crate::hint::{Hint, HintLine};
 use crate::stretch::{Caret, Stretch};
@@ -11,7 +11,7 @@ use std::fmt::{Display, Formatter};
 
 /// What is shown below the line of a fault, as indented lines.
 #[derive(Clone, Copy)]
-pub enum Below<'a> {
+pub enum Snippet<'a> {
     /// Nothing.
     Nothing,
     /// The stretch of a field around a place, with a caret below the place.
@@ -35,11 +35,11 @@ pub enum Below<'a> {
 }
 
 /// The byte at the place around which a field is shown; 0 if there is none.
-pub(crate) fn byte_at(below: Below<'_>) -> u8
-    ensures { result ≡ spec.byte_at below.entry }
+pub(crate) fn byte_at(snippet: Snippet<'_>) -> u8
+    ensures { result ≡ spec.byte_at snippet.entry }
 {
-    match below {
-        Below::Field(stretch) => match stretch.after.first() {
+    match snippet {
+        Snippet::Field(stretch) => match stretch.after.first() {
             Some(byte) => *byte,
             None => 0,
         },
@@ -47,20 +47,20 @@ pub(crate) fn byte_at(below: Below<'_>) -> u8
     }
 }
 
-impl Display for Below<'_> {
-    ghost output = { λ below. Some (below_text below) };
+impl Display for Snippet<'_> {
+    ghost output = { λ snippet. Some (snippet_text snippet) };
 
     fn fmt<W: fmt::Write>(&self, f: &mut Formatter<W>) -> fmt::Result {
         match *self {
-            Below::Nothing => Ok(()),
-            Below::Field(field) => {
+            Snippet::Nothing => Ok(()),
+            Snippet::Field(field) => {
                 let caret = Caret(field);
                 write!(f, "    {field}\n    {caret}\n")
             }
-            Below::Row { found, fields } => {
+            Snippet::Row { found, fields } => {
                 write!(f, "    found:    {found}\n    fields:   {fields}\n")
             }
-            Below::Header {
+            Snippet::Header {
                 found,
                 expected,
                 hint,

@@ -9,8 +9,8 @@ use Rattle.csv.specs.Reading.{default_config, records, strip_bom}
 use Rattle.gtd_records.specs.Columns.{Fields}
 use Rattle.gtd_faults.specs.Places.{field_of, row_text}
 use Rattle.gtd_faults.specs.Printable.{printable, shown_byte}
-use Rattle.gtd_faults.specs.declared.below.Below.{Below}
-use Rattle.gtd_faults.specs.declared.below.Below.TheVariants as below
+use Rattle.gtd_faults.specs.declared.snippet.Snippet.{Snippet}
+use Rattle.gtd_faults.specs.declared.snippet.Snippet.TheVariants as snippet
 use Rattle.gtd_faults.specs.declared.hint.Hint.{Hint}
 use Rattle.gtd_faults.specs.declared.stretch.Stretch.{Stretch}
 
@@ -80,54 +80,54 @@ expected_text = codes "element,direction,vehicle,domain (or vehicles)"
 
 -- nothing; the stretch of a field around a place, with a caret; the first line of a row, with the number of its fields; or the
 -- first line of a file without a header, with its hint
-abbrev pub below_text : Below → List ℕ
-below_text below.Nothing = []
-below_text (below.Field field) = codes "    " ++ stretch_text field ++ codes "\n    " ++ caret_text field ++ codes "\n"
-below_text (below.Row found fields) =
+abbrev pub snippet_text : Snippet → List ℕ
+snippet_text snippet.Nothing = []
+snippet_text (snippet.Field field) = codes "    " ++ stretch_text field ++ codes "\n    " ++ caret_text field ++ codes "\n"
+snippet_text (snippet.Row found fields) =
     codes "    found:    " ++ (stretch_text found ++ (codes "\n    fields:   " ++ (decimal fields ++ codes "\n")))
-below_text (below.Header found expected hint) =
+snippet_text (snippet.Header found expected hint) =
     codes "    found:    "
     ++ (stretch_text found ++ (codes "\n    expected: " ++ (expected.now ++ (codes "\n" ++ hint_line hint))))
 
 -- the byte at the place around which a field is shown; 0 if there is none
-abbrev pub byte_at : Below → ℕ
-byte_at (below.Field field) = get_or field.after.now 0 0
+abbrev pub byte_at : Snippet → ℕ
+byte_at (snippet.Field field) = get_or field.after.now 0 0
 byte_at other = 0
 
 -- What is shown of a field is the stretch around a place; nothing, if there is no such field or it ends before the place.
-abbrev pub IsOfField : Option (List ℕ) → ℕ → Below → Type 0
-IsOfField None place shown = shown ≡ below.Nothing
-IsOfField (Some field) place below.Nothing = length field < place
-IsOfField (Some field) place (below.Field stretch) = (place ≤ length field) × IsAround field place stretch
-IsOfField (Some field) place (below.Row found fields) = ⊥
-IsOfField (Some field) place (below.Header found expected hint) = ⊥
+abbrev pub IsOfField : Option (List ℕ) → ℕ → Snippet → Type 0
+IsOfField None place shown = shown ≡ snippet.Nothing
+IsOfField (Some field) place snippet.Nothing = length field < place
+IsOfField (Some field) place (snippet.Field stretch) = (place ≤ length field) × IsAround field place stretch
+IsOfField (Some field) place (snippet.Row found fields) = ⊥
+IsOfField (Some field) place (snippet.Header found expected hint) = ⊥
 
 -- What is shown of the first of these rows is its first line, from its first byte on, and the number of its fields; nothing, if
 -- there is none.
-abbrev pub IsOfRow : List Fields → List ℕ → Below → Type 0
-IsOfRow [] line shown = shown ≡ below.Nothing
-IsOfRow (fields ∷ rows) line (below.Row found count) = IsAround line 0 found × (count ≡ length fields)
+abbrev pub IsOfRow : List Fields → List ℕ → Snippet → Type 0
+IsOfRow [] line shown = shown ≡ snippet.Nothing
+IsOfRow (fields ∷ rows) line (snippet.Row found count) = IsAround line 0 found × (count ≡ length fields)
 IsOfRow (fields ∷ rows) line shown = ⊥
 
 -- what is shown of the row with this number of a file with these bytes
-abbrev pub IsOfRowAt : List ℕ → ℕ → Below → Type 0
+abbrev pub IsOfRowAt : List ℕ → ℕ → Snippet → Type 0
 IsOfRowAt bytes row shown =
     IsOfRow (drop row (records default_config (strip_bom bytes))) (first_line (row_text bytes row)) shown
 
 -- what is shown of a first line that is no header: its stretch from its first byte on, the header that is expected, and a hint
-abbrev pub IsOfHeader : List ℕ → List ℕ → Option Hint → Below → Type 0
-IsOfHeader line text told (below.Header found expected hint) =
+abbrev pub IsOfHeader : List ℕ → List ℕ → Option Hint → Snippet → Type 0
+IsOfHeader line text told (snippet.Header found expected hint) =
     IsAround line 0 found × (expected.now ≡ text) × (hint ≡ told)
 IsOfHeader line text told shown = ⊥
 
 -- What is shown below the line of a fault of a file with these bytes: the field in the column at fault, around the place in
 -- a domain or from its first byte on; a row with too few or too many fields; if the file has no header, its first line, and the
 -- hint for it; otherwise nothing.
-abbrev pub IsBelow : List ℕ → RecordFault → Below → Type 0
-IsBelow bytes (fault.FieldCount row) shown = IsOfRowAt bytes row shown
-IsBelow bytes (fault.Element row) shown = IsOfField (field_of bytes row 0) 0 shown
-IsBelow bytes (fault.Direction row) shown = IsOfField (field_of bytes row 1) 0 shown
-IsBelow bytes (fault.Vehicle row) shown = IsOfField (field_of bytes row 2) 0 shown
-IsBelow bytes (fault.Domain row why) shown = IsOfField (field_of bytes row 3) why.place shown
-IsBelow bytes fault.Header shown = IsOfHeader (first_line bytes) expected_text (hint_of (first_line bytes)) shown
-IsBelow bytes why shown = shown ≡ below.Nothing
+abbrev pub IsSnippet : List ℕ → RecordFault → Snippet → Type 0
+IsSnippet bytes (fault.FieldCount row) shown = IsOfRowAt bytes row shown
+IsSnippet bytes (fault.Element row) shown = IsOfField (field_of bytes row 0) 0 shown
+IsSnippet bytes (fault.Direction row) shown = IsOfField (field_of bytes row 1) 0 shown
+IsSnippet bytes (fault.Vehicle row) shown = IsOfField (field_of bytes row 2) 0 shown
+IsSnippet bytes (fault.Domain row why) shown = IsOfField (field_of bytes row 3) why.place shown
+IsSnippet bytes fault.Header shown = IsOfHeader (first_line bytes) expected_text (hint_of (first_line bytes)) shown
+IsSnippet bytes why shown = shown ≡ snippet.Nothing
