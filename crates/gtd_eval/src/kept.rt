@@ -6,9 +6,9 @@ ghost use Rattle.gtd_kept.specs.Kept.{HasKept};
 ghost use Rattle.gtd_kept.specs.facts.RepeatProps.{AreKept-prop};
 
 use crate::cursor::Cursor;
-use crate::kept_period::kept_period;
 use crate::leaf::Leaf;
 use crate::node::Node;
+use crate::period::period_of_all;
 use crate::tree::SweepTree;
 use gtd_core::{Expr, Horizon, Span};
 use gtd_kept::{Repeat, is_long, room_for};
@@ -135,9 +135,11 @@ impl Leaf for Part {
     ghost leaf_kept = { part_kept };
 
     fn of_expr(alloc: Global, expr: &Expr, horizon: Horizon) -> Result<Option<Part>, AllocError> {
-        if let Some(period) = kept_period(expr, horizon) {
-            let kept = KeptPeriod::of_expr(alloc, expr, period, horizon)?;
-            return Ok(Some(Part::Repeating(kept)));
+        if let Some(period) = period_of_all(expr) {
+            if is_long(period, horizon) {
+                let kept = KeptPeriod::of_expr(alloc, expr, period, horizon)?;
+                return Ok(Some(Part::Repeating(kept)));
+            }
         }
         match expr {
             Expr::Leaf(basic) => Ok(Some(Part::Basic(Runs::new(*basic, horizon)))),

@@ -26,7 +26,6 @@ mod ever;
 mod expr_stays;
 mod extent;
 mod kept;
-mod kept_period;
 pub mod laws;
 mod leaf;
 mod membership;

@@ -170,6 +170,26 @@ impl<L: Leaf> SweepTree<L> {
         })
     }
 
+    /// The cursor of the seconds of one cursor that are not in another. It has one node more than both together, and must have
+    /// at most 16,777,216 nodes. After a refusal of memory both cursors are gone.
+    pub fn without(
+        alloc: Global,
+        cursor: SweepTree<L>,
+        other: SweepTree<L>,
+    ) -> Result<SweepTree<L>, AllocError>
+        requires few { cursor_nodes cursor + cursor_nodes other < most_nodes }
+        ensures seconds { IfOk result (λ c. (t : ℤ) → Holds (cursor_list c) t
+            ↔ (Holds (cursor_list cursor) t × (Holds (cursor_list other) t → ⊥))) }
+        ensures normal { IfOk result (λ c. IsNormal (cursor_list c)) }
+        ensures nodes { IfOk result (λ c. cursor_nodes c ≡ cursor_nodes cursor + cursor_nodes other + 1) }
+        ensures work { IfOk result (λ c. cursor_work c ≡ cursor_work cursor + cursor_work other) }
+    {
+        let both = Box::new(alloc, (cursor.node, other.node))?;
+        Ok(SweepTree {
+            node: Node::Two(Sweep::new(Op::Minus), both),
+        })
+    }
+
     /// The number of nodes of its tree. `next` does not change it.
     pub fn nodes(&self) -> u64
         ensures value { result ≡ cursor_nodes self.now }

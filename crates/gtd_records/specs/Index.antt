@@ -1,15 +1,12 @@
 -- How the restrictions of a file are found by their element.
-use Rattle.std.specs.Prelude.{◌≡◌, ◌<◌, ◌≤◌, ◌+◌, ℕ, ℤ, List, Option, length, slice_index_or}
+use Rattle.std.specs.Prelude.{◌≡◌, ◌<◌, ◌≤◌, ℕ, ℤ, List, Option, length, slice_index_or}
 use Rattle.std.specs.List.{All, Contains}
 use Rattle.std.specs.List.Sorted.{IsNonDecreasingBy}
-use Rattle.gtd_core.specs.Limits.{most_rows, most_nodes}
+use Rattle.gtd_core.specs.Limits.{most_rows}
 use Rattle.gtd_core.specs.Trees.{Tree}
 use Rattle.gtd_core.specs.Seconds.{Within}
 use Rattle.gtd_core.specs.Whole.{whole}
 use Rattle.gtd_core.specs.declared.horizon.Horizon.{Horizon}
-use Rattle.gtd_eval.specs.Cursors.{SomeHolds, total_nodes}
-use Rattle.gtd_eval.specs.declared.leaf.Leaf.{Ghosts}
-use Rattle.gtd_eval.specs.declared.tree.SweepTree.{SweepTree}
 use Rattle.gtd_records.specs.Closing.{AreElements, Concerns, IsClosed, IsOpen, Restriction}
 use Rattle.gtd_records.specs.declared.direction.Direction.{Direction}
 use Rattle.gtd_places.specs.declared.place.RowPlace.{RowPlace}
@@ -62,11 +59,9 @@ pub record IsIndexed (rows : List Restriction) (places : List RowPlace) (element
   pub named : AreElements rows elements
   pub few : length rows ≤ most_rows
 
--- The cursors have the seconds of the horizon at which a restriction closes the element in the direction for the vehicle
--- type, and few enough nodes to be united and complemented.
-pub record AreClosing {L : Type 0} {g : Ghosts L} (rows : List Restriction) (element : ℕ) (direction : Direction) (vehicle : ℕ)
-    (horizon : Horizon) (cursors : List (SweepTree L g)) : Type 0 where
-  pub few : total_nodes cursors + length cursors ≤ most_nodes
-  pub sound : (t : ℤ) → SomeHolds cursors t → IsClosed rows element direction vehicle t
-  pub complete : (t : ℤ) → Within (whole horizon) t → (SomeHolds cursors t → ⊥)
-      → IsOpen rows element direction vehicle t
+-- Of the seconds of the horizon, the set has those at which a restriction closes the element in the direction for the vehicle
+-- type.
+pub record AreClosing (rows : List Restriction) (element : ℕ) (direction : Direction) (vehicle : ℕ) (horizon : Horizon)
+    (set : ℤ → Type 0) : Type 0 where
+  pub sound : (t : ℤ) → set t → IsClosed rows element direction vehicle t
+  pub complete : (t : ℤ) → Within (whole horizon) t → (set t → ⊥) → IsOpen rows element direction vehicle t

@@ -1,4 +1,5 @@
 pub mod Closing
+pub mod ClosingCursors
 pub mod ClosingRows
 pub mod Columns
 pub mod ComputedFile

@@ -8,9 +8,9 @@ ghost use Rattle.gtd_spans.specs.Change.{IsNextChange, NeverChanges};
 
 use crate::direction::DirectedElement;
 use crate::index::Records;
-use crate::schedule::open_tree;
+use crate::schedule::open_seconds;
 use gtd_core::{Horizon, Sec};
-use gtd_eval::{Cursor, days_to_look};
+use gtd_eval::days_to_look;
 use std::alloc::{AllocError, Global};
 
 // How often the records are asked how long they stay as they are, before their seconds are gone over span by span.
@@ -33,7 +33,7 @@ fn change_by_spans(
 {
     let weekly = records.period(at.element, at.direction, vehicle).is_some();
     let days = days_to_look(weekly, second, horizon);
-    let mut open: Cursor = open_tree(alloc, records, at, vehicle, days)?;
+    let mut open = open_seconds(alloc, records, at.element, at.direction, vehicle, days)?;
     Ok(gtd_spans::next_change(&mut open, second, days.until()))
 }
 

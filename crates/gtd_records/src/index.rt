@@ -1,20 +1,22 @@
 //! The records of a file in memory, found by their element.
 
 ghost use Rattle.std.specs.Prelude.{Any, ◌≡◌, ◌↔◌, ◌≤◌, length, IfOk, IfSome, IsFalse, IsTrue};
-ghost use Rattle.gtd_core.specs.Limits.{most_rows};
+ghost use Rattle.gtd_core.specs.Limits.{most_nodes, most_rows};
 ghost use Rattle.gtd_core.specs.Seconds.{IsHorizonSecond, Within};
 ghost use Rattle.gtd_core.specs.Whole.{whole};
 ghost use Rattle.gtd_eval.specs.Periods.{RepeatsFrom};
 ghost use Rattle.gtd_eval.specs.Stays.{IsStay};
 ghost use Rattle.gtd_records.specs.Closing.{AreElements, ClosesOneWay, Concerns, IsClosed};
+ghost use Rattle.gtd_records.specs.ClosingCursors.{HasSecond, RepeatIn, nodes_with_cursors};
 ghost use Rattle.gtd_records.specs.ClosingRows.{AreClosingRows};
 ghost use Rattle.gtd_records.specs.Index.{AreClosing, AreElementPlaces, ArePlaces, ArePlacesWithin, IsRepeated};
 ghost use Rattle.gtd_records.specs.Columns.{IsSortedSet};
 
+use crate::closing_cursors::ClosingCursors;
 use crate::direction::Direction;
 use crate::record::Record;
 use gtd_core::{Horizon, Op, Sec};
-use gtd_eval::{Leaf, Period, Stay, SweepTree};
+use gtd_eval::{Period, Stay};
 use gtd_places::{OrderedPlaces, RowPlace, Sections, by_element, elements_of, places_below_near};
 use std::alloc::{AllocError, Global};
 use std::marker::Model;
@@ -261,22 +263,24 @@ impl Records {
     }
 
     // The cursors of the records that close the element in the direction for the vehicle type, of equal ones perhaps one.
-    pub(crate) fn closing<L: Leaf>(
+    pub(crate) fn closing(
         &self,
         alloc: Global,
         element: u64,
         direction: Direction,
         vehicle: u8,
         horizon: Horizon,
-    ) -> Result<Vec<SweepTree<L>>, AllocError>
-        ensures { IfOk result (λ cursors. AreClosing self.now element direction vehicle horizon cursors.items) }
+    ) -> Result<ClosingCursors, AllocError>
+        ensures nodes { IfOk result (λ c. nodes_with_cursors c ≤ most_nodes) }
+        ensures seconds { IfOk result (λ c. AreClosing self.now element direction vehicle horizon (HasSecond c)) }
+        ensures repeats { IfOk result (λ c. RepeatIn horizon c.period c.repeating.items) }
     {
         let places = self.places_of_element(element);
-        let mut cursors = Vec::new(alloc);
+        let mut cursors = ClosingCursors::none(alloc);
         for (at, place) in places.iter().enumerate() {
             let restriction = &self.rows[place.row];
             if self.adds(places, at, restriction, direction, vehicle) {
-                cursors.push(restriction.cursor::<L>(alloc, horizon)?)?;
+                cursors.add(alloc, restriction, horizon)?;
             }
         }
         Ok(cursors)

@@ -20,6 +20,7 @@ pub use schedule::{open_seconds, schedule_of};
 pub use vehicles::{Codes, Vehicles, Version, read_vehicles};
 
 mod change;
+mod closing_cursors;
 mod column;
 mod direction;
 mod fault;

@@ -4,34 +4,17 @@ ghost use Rattle.std.specs.Prelude.{IfOk};
 ghost use Rattle.gtd_eval.specs.Cursors.{cursor_list};
 ghost use Rattle.gtd_eval.specs.Membership.{IsNormalOver};
 ghost use Rattle.gtd_records.specs.Closing.{IsOpen};
-ghost use Rattle.gtd_records.specs.Index.{AreClosing};
 
-use crate::direction::{DirectedElement, Direction};
+use crate::direction::Direction;
 use crate::index::Records;
 use gtd_core::Horizon;
-use gtd_eval::{Cursor, KeptCursor, Leaf, SweepTree};
+use gtd_eval::KeptCursor;
 use gtd_spans::SpanList;
 use std::alloc::{AllocError, Global};
 
-// The same seconds as those of `open_seconds`, by cursors of this kind.
-pub(crate) fn open_tree<L: Leaf>(
-    alloc: Global,
-    records: &Records,
-    at: DirectedElement,
-    vehicle: u8,
-    horizon: Horizon,
-) -> Result<SweepTree<L>, AllocError>
-    ensures seconds { IfOk result
-        (λ c. IsNormalOver (IsOpen records.now at.element at.direction vehicle) horizon (cursor_list c)) }
-{
-    let closing = records.closing::<L>(alloc, at.element, at.direction, vehicle, horizon)?;
-    let closed = SweepTree::<L>::any(alloc, closing, horizon)?;
-    SweepTree::<L>::outside(alloc, closed, horizon)
-}
-
 /// The seconds of the horizon in which no record closes the element in the direction for the vehicle type, span by
 /// span. The vehicle type must be from 1 to 99. An element that no record names is open throughout. The spans of a period are
-/// kept, at most 4,096, and handed out again: of the whole, if all its records repeat, and otherwise of what repeats in them.
+/// kept, at most 4,096, and handed out again: those that all records that repeat leave open, and of what repeats in the others.
 /// `AllocError` is answered only if memory was refused.
 pub fn open_seconds(
     alloc: Global,
@@ -44,12 +27,8 @@ pub fn open_seconds(
     ensures seconds { IfOk result
         (λ c. IsNormalOver (IsOpen records.now element direction vehicle) horizon (cursor_list c)) }
 {
-    let at = DirectedElement { element, direction };
-    let Some(period) = records.period(element, direction, vehicle) else {
-        return open_tree(alloc, records, at, vehicle, horizon);
-    };
-    let open: Cursor = open_tree(alloc, records, at, vehicle, horizon)?;
-    KeptCursor::repeating(alloc, open, period, horizon)
+    let closing = records.closing(alloc, element, direction, vehicle, horizon)?;
+    closing.outside(alloc, horizon)
 }
 
 /// The seconds of the horizon in which no record closes the element in the direction for the vehicle type, which must

@@ -1,12 +1,13 @@
-use Rattle.std.proofs.Common.{◌≤◌, ◌+◌, ◌*◌, length}
-use Rattle.gtd_eval.specs.Cursors.{total_nodes}
+use Rattle.std.proofs.Common.{◌≤◌, ◌*◌}
 use Rattle.gtd_records.proofs.OpenFacts.{AreClosingSoFar}
+use Rattle.gtd_records.specs.ClosingCursors.{HasSecond, RepeatIn, nodes_with_cursors}
 use Rattle.gtd_records.proofs.index.Records.closing.Given as goal
 
 -- the cursors of the records so far
 abbrev pub invariant-loop-at : goal.invariant-loop-at
-invariant-loop-at g l = record {
-  few : total_nodes l.cursors.items + length l.cursors.items ≤ 256 * l.at;
+invariant-loop-at l = record {
+  few : nodes_with_cursors l.cursors ≤ 256 * l.at;
   so_far : AreClosingSoFar l.self-inside.rows.items l.places l.element l.direction l.vehicle l.horizon l.at
-      l.cursors.items;
+      (HasSecond l.cursors);
+  repeats : RepeatIn l.horizon l.cursors.period l.cursors.repeating.items;
 }

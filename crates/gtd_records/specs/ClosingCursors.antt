@@ -1,0 +1,27 @@
+-- What the cursors of closing restrictions have together.
+use Rattle.std.specs.Prelude.{ℕ, ℤ, List, length, ◌+◌, ◌+ℤ◌, ◌≤ℤ◌, ◌⊎◌, ◌↔◌}
+use Rattle.gtd_core.specs.Seconds.{Within}
+use Rattle.gtd_core.specs.Whole.{whole}
+use Rattle.gtd_core.specs.declared.horizon.Horizon.{Horizon}
+use Rattle.gtd_eval.specs.Cursors.{SomeHolds, total_nodes}
+use Rattle.gtd_eval.specs.Periods.{Period, period_seconds}
+use Rattle.gtd_eval.specs.declared.leaf.Leaf.{Ghosts}
+use Rattle.gtd_eval.specs.declared.tree.SweepTree.{SweepTree}
+use Rattle.gtd_records.specs.declared.closing_cursors.ClosingCursors.{ClosingCursors}
+
+-- one of the cursors has the second
+abbrev pub HasSecond : ClosingCursors → ℤ → Type 0
+HasSecond cursors t = SomeHolds cursors.repeating.items t ⊎ SomeHolds cursors.others.items t
+
+-- how many there are, and the nodes of their trees
+abbrev pub nodes_with_cursors : ClosingCursors → ℕ
+nodes_with_cursors cursors =
+    (total_nodes cursors.repeating.items + length cursors.repeating.items)
+    + (total_nodes cursors.others.items + length cursors.others.items)
+
+-- Together they have a second of the horizon exactly if they have the one a period later, where that is in the horizon too,
+-- whichever period is taken from this one on.
+abbrev pub RepeatIn : {L : Type 0} {g : Ghosts L} → Horizon → Period → List (SweepTree L g) → Type 0
+RepeatIn horizon x cursors =
+    (y : Period) → period_seconds x ≤ℤ period_seconds y → (t : ℤ) → Within (whole horizon) t
+    → Within (whole horizon) (t +ℤ period_seconds y) → SomeHolds cursors t ↔ SomeHolds cursors (t +ℤ period_seconds y)
