@@ -1,5 +1,5 @@
 -- The cursors of the restrictions that close an element, and what they have together.
-use Rattle.std.proofs.Common.{◌≡◌, sym, subst, arith, ◌<◌, ◌≤◌, ◌+◌, ◌⊎◌, inl, inr, ◌↔◌, ℕ, List, [], ◌∷◌, ◌++◌, length}
+use Rattle.std.proofs.Common.{◌≡◌, refl, zero, suc, sym, subst, arith, ◌<◌, ◌≤◌, ◌+◌, ◌⊎◌, inl, inr, ◌↔◌, ℕ, List, [], ◌∷◌, ◌++◌, length}
 use Rattle.std.specs.Prelude.{slice_index_or, ℤ, Result, Ok, Err, IfOk}
 use Rattle.gtd_core.specs.Seconds.{Interval, Within}
 use Rattle.gtd_core.specs.Whole.{whole}
@@ -131,6 +131,12 @@ open_normal rows element direction vehicle horizon set spare are outside normal 
       (λ h. let o = (outside t).0 h in (o.0.0, o.0.1, are.complete t o.0 o.1)),
       (λ q. (outside t).1 ((q.0, q.1), (λ h. q.2 (are.sound t h)))),
     ))
+
+-- few cursors that are united have few nodes
+pub few-united : (n total nodes limit : ℕ) → (n ≡ 0 → nodes ≡ 1) → (0 < n → nodes + 1 ≡ total + n) → total + n ≤ limit
+    → 1 < limit → nodes < limit
+few-united zero total nodes limit none some le large = omega (arith, none refl, large)
+few-united (suc n) total nodes limit none some le large = omega (arith, some (omega arith), le)
 
 pub ok_both : {T E : Type 0} {P Q R : T → Type 0} (r : Result T E) → IfOk r P → IfOk r Q → ((x : T) → P x → Q x → R x) → IfOk r R
 ok_both (Ok x) p q h = h x p q

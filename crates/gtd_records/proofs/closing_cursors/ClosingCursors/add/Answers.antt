@@ -1,0 +1,41 @@
+-- The cursor of a record that repeats comes to those that do, and the longer period is one of them all.
+use Rattle.std.proofs.Common.{arith, length-append, [], ◌∷◌}
+use Rattle.gtd_eval.specs.facts.CursorFacts.{nodes-append}
+use Rattle.gtd_records.specs.Closing.{HoldsAt}
+use Rattle.gtd_records.proofs.OpenFacts.{left-more, pushed, right-more}
+use Rattle.gtd_records.proofs.PeriodFacts.{more-repeat}
+use Rattle.gtd_records.proofs.closing_cursors.ClosingCursors.add.Goals as goal
+
+pub returns-in_default-clause-nodes : goal.returns-in_default-clause-nodes
+returns-in_default-clause-nodes c =
+    rw c.in_ok-push.ensures.items (omega (
+      arith,
+      nodes-append c.args.self.now.others.items (c.in_ok-cursor.cursor ∷ []),
+      length-append c.args.self.now.others.items (c.in_ok-cursor.cursor ∷ []),
+      c.in_ok-cursor.ensures.nodes,
+    ))
+
+pub returns-in_default-clause-seconds : goal.returns-in_default-clause-seconds
+returns-in_default-clause-seconds c = λ t.
+    rw c.in_ok-push.ensures.items (right-more _ _ _ _ _ (pushed c.args.self.now.others.items c.in_ok-cursor.cursor t)
+    (c.in_ok-cursor.ensures.seconds t))
+
+pub returns-clause-nodes : goal.returns-clause-nodes
+returns-clause-nodes c =
+    rw c.in_ok-push-2.ensures.items (omega (
+      arith,
+      nodes-append c.args.self.now.repeating.items (c.in_ok-cursor-2.cursor ∷ []),
+      length-append c.args.self.now.repeating.items (c.in_ok-cursor-2.cursor ∷ []),
+      c.in_ok-cursor-2.ensures.nodes,
+    ))
+
+pub returns-clause-seconds : goal.returns-clause-seconds
+returns-clause-seconds c = λ t.
+    rw c.in_ok-push-2.ensures.items (left-more _ _ _ _ _ (pushed c.args.self.now.repeating.items c.in_ok-cursor-2.cursor t)
+    (c.in_ok-cursor-2.ensures.seconds t))
+
+pub returns-clause-repeats : goal.returns-clause-repeats
+returns-clause-repeats c = λ are.
+    rw c.in_ok-push-2.ensures.items (more-repeat c.args.horizon c.args.self.now.period c.in-Some.period c.longer-self.result
+    c.args.self.now.repeating.items c.in_ok-cursor-2.cursor (HoldsAt c.args.record.now.domain) c.longer-self.ensures.first
+    c.longer-self.ensures.second c.in_ok-cursor-2.ensures.seconds c.in-Some.ensures.repeats are)
