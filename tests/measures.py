@@ -27,6 +27,9 @@ REPORT = "gtd_year"
 # What begins to read the rows of a file. The walk over rows in `places.rt` is for the lists of other commands.
 READING = r"\b(?:take_rows|table|faults_of|read_records|Rows::new)\("
 LISTING = ["gtd_warnings", "gtd_faults"]
+# What walks over the tokens of a text of hours from its front. Behind a fault the rest is only looked through.
+TOKENS = r"\b(?:next_token\(text, |check_tokens\(text, 0\))"
+TOKEN_READERS = ["gtd_hours_grammar", "gtd_hours_text"]
 
 
 def tracked(*patterns):
@@ -107,6 +110,8 @@ def measured():
     yield f"files of the smallest report, `{REPORT}`", len(code_of(REPORT))
     listing = [name for crate in LISTING for name in code_of(crate) if name.endswith(".rt") and not name.endswith("/places.rt")]
     yield "readings of a file for `gtdesk faults --warn`", sum(len(re.findall(READING, text_of(name))) for name in listing)
+    readers = [name for crate in TOKEN_READERS for name in code_of(crate) if name.endswith(".rt")]
+    yield "passes over the tokens of a text of hours", sum(len(re.findall(TOKENS, text_of(name))) for name in readers)
     yield "bytes of the documents (README, CONTRIBUTING, `docs/`)", sum(len(text_of(it).encode()) for it in documents)
     yield "bytes of the printed definitions, `STATEMENT.txt`", len(text_of("STATEMENT.txt").encode())
 

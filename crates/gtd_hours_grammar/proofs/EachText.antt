@@ -15,7 +15,7 @@ use Rattle.gtd_hours_grammar.specs.Moves.{next_move}
 use Rattle.gtd_hours_grammar.specs.Runs.{is_after, with_piece}
 use Rattle.gtd_hours_grammar.specs.Sound.{Fits}
 use Rattle.gtd_hours_parts.specs.SoundPieces.{ArePieces, IsPiece}
-use Rattle.gtd_hours_grammar.specs.Steps.{IsMove, IsReading, advanced, fault_at, kind_of, moves_left}
+use Rattle.gtd_hours_grammar.specs.Steps.{IsMove, IsTokenReading, advanced, fault_at, kind_of, moves_left}
 use Rattle.gtd_hours_grammar.specs.facts.FirstFault.{hours_or_fault}
 use Rattle.gtd_hours_grammar.specs.facts.OneReading.{one_reading}
 use Rattle.gtd_hours_grammar.proofs.EndLemmas.{all_read, incomplete, misfits}
@@ -37,7 +37,7 @@ Read text = Given text ⊎ ((bad : HoursFault) × IsFirstFault text bad)
 -- a reading that has come this far, with pieces in range
 record So (text : List ℕ) (r : Reading) : Type 0 where
   given : List Piece
-  is : IsReading text r given
+  is : IsTokenReading text r given
   are : ArePieces given
   few : length given + moves_left text r ≤ 4 * length text
 
@@ -99,7 +99,7 @@ one_piece None = omega arith
 one_piece (Some x) = omega arith
 
 sound : (text : List ℕ) (r : Reading) (given : List Piece) (next : Option Token) (move : Move) (x : Option Piece)
-    → move.piece ≡ x → IsReading text r given → IsMove r.at (kind_of next) (Some move) → IfSome x (λ y. IsPiece y)
+    → move.piece ≡ x → IsTokenReading text r given → IsMove r.at (kind_of next) (Some move) → IfSome x (λ y. IsPiece y)
 sound text r given next move None e is goes = record {}
 sound text r given next move (Some y) e is goes = sound_piece r.at (kind_of next) move y is.stands goes e
 

@@ -22,7 +22,7 @@ use Rattle.gtd_hours_grammar.specs.Places.{Rest}
 use Rattle.gtd_hours_grammar.specs.Places.BehindDate.{none}
 use Rattle.gtd_hours_grammar.specs.Sound.{IsPlace, takes_number, takes_time}
 use Rattle.gtd_hours_grammar.specs.Runs.{Runs, is_after, is_judged}
-use Rattle.gtd_hours_grammar.specs.Steps.{GivesTo, IsMove, IsReading, end_or_fault, ended, fault_at, kind_of}
+use Rattle.gtd_hours_grammar.specs.Steps.{GivesTo, IsMove, IsTokenReading, end_or_fault, ended, fault_at, kind_of}
 use Rattle.gtd_hours_grammar.specs.facts.RunSteps.{run_end_refused, run_refused, unjudged_refused}
 use Rattle.gtd_hours_grammar.specs.facts.FollowRuns.{follow_runs}
 use Rattle.gtd_hours_grammar.proofs.NoNext.{no_number, no_time}
@@ -40,7 +40,7 @@ rest_ends (places.AfterDate year m) e h =
     none (record { later = []; rest = []; more = More.none [] [] refl refl; follow = follow })
 rest_ends at e h = absurd cc
 
-pub all_read : (text : List ℕ) (r : Reading) (given : List Piece) → IsReading text r given → IsNext text r.place (Ok None)
+pub all_read : (text : List ℕ) (r : Reading) (given : List Piece) → IsTokenReading text r given → IsNext text r.place (Ok None)
     → is_after r.at ≡ true → IsHoursText text given
 all_read text r given is h e =
     let none_left = none_later is.read.later (same_next text r.place is.read.later None is.read.reads h) in
@@ -56,13 +56,13 @@ all_read text r given is h e =
           (ap (λ (q : List Piece). is.one ++ q) (append-nil is.two) ∙ sym is.whole) front);
     }
 
-can_go_on : (text : List ℕ) (r : Reading) (given : List Piece) → (is : IsReading text r given) → IsPlace r.behind
+can_go_on : (text : List ℕ) (r : Reading) (given : List Piece) → (is : IsTokenReading text r given) → IsPlace r.behind
     → CanGoOn (kinds is.read.before)
 can_go_on text r given is stands =
     let end = ending r.behind stands in
     record { p = is.one ++ end.p; after = end.ts; follow = is.read.leads so_far end.p end.ts end.rest }
 
-pub incomplete : (text : List ℕ) (r : Reading) (given : List Piece) → IsReading text r given → IsNext text r.place (Ok None)
+pub incomplete : (text : List ℕ) (r : Reading) (given : List Piece) → IsTokenReading text r given → IsNext text r.place (Ok None)
     → IsMove r.at None None → is_after r.at ≡ false
     → IsFirstFault text (record { kind = fault.Incomplete; place = length text })
 incomplete text r given is h goes e =
@@ -89,7 +89,7 @@ first_runs : (before : List TokenKind) (t : TokenKind) (after : List TokenKind)
     → (before ++ t ∷ []) ++ after ≡ before ++ t ∷ after
 first_runs before t after = append_assoc before (t ∷ []) after
 
-number_never : (text : List ℕ) (r : Reading) (given : List Piece) (is : IsReading text r given) (v d : ℕ) (other : TokenKind)
+number_never : (text : List ℕ) (r : Reading) (given : List Piece) (is : IsTokenReading text r given) (v d : ℕ) (other : TokenKind)
     → are_alike (token.Number v d) other ≡ true → takes_number r.behind ≡ false → (p : List Piece) → (after : List TokenKind)
     → Follow by_place stage.Front p (kinds is.read.before ++ other ∷ after) → ⊥
 number_never text r given is v d (token.Number w c) alike e p after follow =
@@ -98,7 +98,7 @@ number_never text r given is v d (token.Number w c) alike e p after follow =
     no_number by_place r.behind behind.p w c after e behind.runs
 number_never text r given is v d other alike e p after follow = absurd cc
 
-time_never : (text : List ℕ) (r : Reading) (given : List Piece) (is : IsReading text r given) (h m : ℕ) (other : TokenKind)
+time_never : (text : List ℕ) (r : Reading) (given : List Piece) (is : IsTokenReading text r given) (h m : ℕ) (other : TokenKind)
     → are_alike (token.Time h m) other ≡ true → takes_time r.behind ≡ false → (p : List Piece) → (after : List TokenKind)
     → Follow by_place stage.Front p (kinds is.read.before ++ other ∷ after) → ⊥
 time_never text r given is h m (token.Time g n) alike e p after follow =
@@ -108,7 +108,7 @@ time_never text r given is h m (token.Time g n) alike e p after follow =
 time_never text r given is h m other alike e p after follow = absurd cc
 
 -- another number, where one fits
-number_fits : (text : List ℕ) (r : Reading) (given : List Piece) (is : IsReading text r given) (v d : ℕ)
+number_fits : (text : List ℕ) (r : Reading) (given : List Piece) (is : IsTokenReading text r given) (v d : ℕ)
     → takes_number r.behind ≡ true → FitsByPlace (kinds is.read.before) (token.Number v d)
 number_fits text r given is v d e =
     let end = number_ending r.behind is.read.stands e in
@@ -120,7 +120,7 @@ number_fits text r given is v d e =
       follow = is.read.leads by_place end.p (token.Number end.v end.d ∷ end.ts) end.rest;
     }
 
-time_kind : (text : List ℕ) (r : Reading) (given : List Piece) (is : IsReading text r given) (h m : ℕ) (b : Bool)
+time_kind : (text : List ℕ) (r : Reading) (given : List Piece) (is : IsTokenReading text r given) (h m : ℕ) (b : Bool)
     → takes_time r.behind ≡ b → IsMisfitKind (kinds is.read.before) (token.Time h m) (range_if b)
 time_kind text r given is h m true e =
     let end = time_ending r.behind is.read.stands e in
@@ -135,7 +135,7 @@ time_kind text r given is h m false e =
     λ fits. time_never text r given is h m fits.other fits.alike e fits.p fits.after fits.follow
 
 -- a token that is judged by its place
-judged_never : (demand : Demand) (text : List ℕ) (r : Reading) (given : List Piece) (t : Token) (is : IsReading text r given)
+judged_never : (demand : Demand) (text : List ℕ) (r : Reading) (given : List Piece) (t : Token) (is : IsTokenReading text r given)
     (k : TokenKind) → t.kind ≡ k → IsNext text r.place (Ok (Some t)) → IsMove r.at (Some k) None
     → is_judged r.at k demand ≡ false → (p : List Piece) → (after : List TokenKind)
     → Follow demand stage.Front p (kinds is.read.before ++ k ∷ after) → ⊥
@@ -147,7 +147,7 @@ judged_never demand text r given t is k same h goes e p after follow =
     let at = gives.runs demand behind.p after behind.runs in
     unjudged_refused demand r.at at.p k after goes.fits e goes.bit (sym goes.computed) at.runs
 
-judged_follow : (demand : Demand) (text : List ℕ) (r : Reading) (given : List Piece) (t : Token) (is : IsReading text r given)
+judged_follow : (demand : Demand) (text : List ℕ) (r : Reading) (given : List Piece) (t : Token) (is : IsTokenReading text r given)
     (k : TokenKind) → t.kind ≡ k → IsNext text r.place (Ok (Some t)) → (end : JudgedEnding demand r.at k)
     → Follow demand stage.Front (is.one ++ (is.two ++ end.p)) (kinds is.read.before ++ k ∷ [])
 judged_follow demand text r given t is k same h end =
@@ -155,7 +155,7 @@ judged_follow demand text r given t is k same h end =
     (known text r given is (Some t) h ∙ ap (λ (x : TokenKind). Some x) same) is.gives in
     is.read.leads demand (is.two ++ end.p) (k ∷ []) (gives.leads demand end.p [] end.rest)
 
-judged_fits : (text : List ℕ) (r : Reading) (given : List Piece) (t : Token) (is : IsReading text r given) (k : TokenKind)
+judged_fits : (text : List ℕ) (r : Reading) (given : List Piece) (t : Token) (is : IsTokenReading text r given) (k : TokenKind)
     → t.kind ≡ k → IsNext text r.place (Ok (Some t)) → are_alike k k ≡ true → JudgedEnding by_place r.at k
     → FitsByPlace (kinds is.read.before) k
 judged_fits text r given t is k same h alike end = record {
@@ -167,13 +167,13 @@ judged_fits text r given t is k same h alike end = record {
 }
 
 -- a number: a step of too many years, another one where one fits, and one where none does
-unneeded : (text : List ℕ) (r : Reading) (given : List Piece) (t : Token) (is : IsReading text r given) (v d : ℕ)
+unneeded : (text : List ℕ) (r : Reading) (given : List Piece) (t : Token) (is : IsTokenReading text r given) (v d : ℕ)
     → t.kind ≡ token.Number v d → IsNext text r.place (Ok (Some t)) → IsMove r.at (Some (token.Number v d)) None
     → is_judged r.at (token.Number v d) with_years ≡ false → NeedsYears (kinds is.read.before) (token.Number v d) → ⊥
 unneeded text r given t is v d same h goes e needs =
     judged_never with_years text r given t is (token.Number v d) same h goes e needs.p [] needs.follow
 
-number_kind : (text : List ℕ) (r : Reading) (given : List Piece) (t : Token) (is : IsReading text r given) (v d : ℕ)
+number_kind : (text : List ℕ) (r : Reading) (given : List Piece) (t : Token) (is : IsTokenReading text r given) (v d : ℕ)
     (many b : Bool) → t.kind ≡ token.Number v d → IsNext text r.place (Ok (Some t)) → IsMove r.at (Some (token.Number v d)) None
     → is_judged r.at (token.Number v d) with_years ≡ many → takes_number r.behind ≡ b
     → IsMisfitKind (kinds is.read.before) (token.Number v d) (number_misfit many b)
@@ -195,7 +195,7 @@ same_slash : (other : TokenKind) → are_alike token.Slash other ≡ true → ot
 same_slash token.Slash e = refl
 same_slash other e = absurd cc
 
-slash_kind : (text : List ℕ) (r : Reading) (given : List Piece) (t : Token) (is : IsReading text r given) (b : Bool)
+slash_kind : (text : List ℕ) (r : Reading) (given : List Piece) (t : Token) (is : IsTokenReading text r given) (b : Bool)
     → t.kind ≡ token.Slash → IsNext text r.place (Ok (Some t)) → IsMove r.at (Some token.Slash) None
     → is_judged r.at token.Slash by_place ≡ b → IsMisfitKind (kinds is.read.before) token.Slash (range_if b)
 slash_kind text r given t is true same h goes e =
@@ -210,7 +210,7 @@ same_month : (m : ℕ) (other : TokenKind) → are_alike (token.Month m) other �
 same_month m (token.Month l) e = ap (λ (n : ℕ). token.Month n) (sym (eqb-true m l e))
 same_month m other e = absurd cc
 
-month_kind : (text : List ℕ) (r : Reading) (given : List Piece) (t : Token) (is : IsReading text r given) (m : ℕ) (b : Bool)
+month_kind : (text : List ℕ) (r : Reading) (given : List Piece) (t : Token) (is : IsTokenReading text r given) (m : ℕ) (b : Bool)
     → t.kind ≡ token.Month m → IsNext text r.place (Ok (Some t)) → IsMove r.at (Some (token.Month m)) None
     → is_judged r.at (token.Month m) by_place ≡ b → IsMisfitKind (kinds is.read.before) (token.Month m) (range_if b)
 month_kind text r given t is m true same h goes e =
@@ -220,7 +220,7 @@ month_kind text r given t is m false same h goes e = λ fits.
     (subst (λ (k : TokenKind). Follow by_place stage.Front fits.p (kinds is.read.before ++ k ∷ fits.after))
     (same_month m fits.other fits.alike) fits.follow)
 
-misfit_kind : (text : List ℕ) (r : Reading) (given : List Piece) (t : Token) (is : IsReading text r given) (k : TokenKind)
+misfit_kind : (text : List ℕ) (r : Reading) (given : List Piece) (t : Token) (is : IsTokenReading text r given) (k : TokenKind)
     → t.kind ≡ k → IsNext text r.place (Ok (Some t)) → IsMove r.at (Some k) None
     → IsMisfitKind (kinds is.read.before) k (misfit_of r.behind r.at r.last k)
 misfit_kind text r given t is (token.Number v d) same h goes =
@@ -241,7 +241,7 @@ placed before from t fault.Years e = sym e
 placed before from t fault.Range e = ap (λ (n : ℕ). if is_slash t.kind then n else t.from) (sym e)
 placed before from t kind e = refl
 
-pub misfits : (text : List ℕ) (r : Reading) (given : List Piece) (t : Token) → IsReading text r given
+pub misfits : (text : List ℕ) (r : Reading) (given : List Piece) (t : Token) → IsTokenReading text r given
     → IsNext text r.place (Ok (Some t)) → IsMove r.at (Some t.kind) None
     → IsFirstFault text (fault_at r t)
 misfits text r given t is h goes =
@@ -266,22 +266,22 @@ misfits text r given t is h goes =
 
 -- ---- both
 
-ended_all : (text : List ℕ) (r : Reading) (given : List Piece) (b : Bool) → is_after r.at ≡ b → IsReading text r given
+ended_all : (text : List ℕ) (r : Reading) (given : List Piece) (b : Bool) → is_after r.at ≡ b → IsTokenReading text r given
     → IsNext text r.place (Ok None) → ended text b ≡ Ok None → IsHoursText text given
 ended_all text r given true e is h same = all_read text r given is h e
 ended_all text r given false e is h same = absurd cc
 
-pub ends_all : (text : List ℕ) (r : Reading) (given : List Piece) (next : Option Token) → IsReading text r given
+pub ends_all : (text : List ℕ) (r : Reading) (given : List Piece) (next : Option Token) → IsTokenReading text r given
     → IsNext text r.place (Ok next) → end_or_fault text r next ≡ Ok None → IsHoursText text given
 ends_all text r given None is h same = ended_all text r given (is_after r.at) refl is h same
 ends_all text r given (Some t) is h same = absurd cc
 
-ended_fault : (text : List ℕ) (r : Reading) (given : List Piece) (b : Bool) → is_after r.at ≡ b → IsReading text r given
+ended_fault : (text : List ℕ) (r : Reading) (given : List Piece) (b : Bool) → is_after r.at ≡ b → IsTokenReading text r given
     → IsNext text r.place (Ok None) → IsMove r.at None None → IfErr (ended text b) (λ bad. IsFirstFault text bad)
 ended_fault text r given true e is h goes = record {}
 ended_fault text r given false e is h goes = incomplete text r given is h goes e
 
-pub ends_fault : (text : List ℕ) (r : Reading) (given : List Piece) (next : Option Token) → IsReading text r given
+pub ends_fault : (text : List ℕ) (r : Reading) (given : List Piece) (next : Option Token) → IsTokenReading text r given
     → IsNext text r.place (Ok next) → IsMove r.at (kind_of next) None
     → IfErr (end_or_fault text r next) (λ bad. IsFirstFault text bad)
 ends_fault text r given None is h goes = ended_fault text r given (is_after r.at) refl is h goes

@@ -10,4 +10,5 @@ pub mod GoodLemmas
 pub mod GoodMoves
 pub mod GoodRules
 pub mod ReadLemmas
+pub mod ReadingLemmas
 pub mod SoundLemmas

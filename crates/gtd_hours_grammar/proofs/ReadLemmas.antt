@@ -16,7 +16,7 @@ use Rattle.gtd_hours_grammar.specs.Places.{Rest}
 use Rattle.gtd_hours_grammar.specs.Sound.{Fits}
 use Rattle.gtd_hours_grammar.specs.Moves.{next_move, rank}
 use Rattle.gtd_hours_grammar.specs.Runs.{IsGood, Runs, first, from, left, with_piece}
-use Rattle.gtd_hours_grammar.specs.Steps.{GivesTo, HasRead, IsMove, IsReading, RunsOn, advanced, kind_of, moved, moves_left}
+use Rattle.gtd_hours_grammar.specs.Steps.{GivesTo, HasRead, IsMove, IsTokenReading, RunsOn, advanced, kind_of, moved, moves_left}
 use Rattle.gtd_hours_grammar.specs.facts.RunSteps.{run_step}
 
 -- ---- moves that use up no token
@@ -106,7 +106,7 @@ kinds_one [] t ts = refl
 kinds_one (u ∷ us) t ts = ap (λ (l : List TokenKind). u.kind ∷ l) (kinds_one us t ts)
 
 pub front_read : (text : List ℕ) (tokens : List Token) → AreTokens text tokens
-    → IsReading text (record { place = 0; behind = places.Front; at = places.Front; last = None; from = 0 }) []
+    → IsTokenReading text (record { place = 0; behind = places.Front; at = places.Front; last = None; from = 0 }) []
 front_read text tokens are = record {
   one = [];
   two = [];
@@ -129,14 +129,14 @@ front_read text tokens are = record {
 
 -- ---- moves of a reading
 
-pub known : (text : List ℕ) (r : Reading) (given : List Piece) (is : IsReading text r given) (next : Option Token)
+pub known : (text : List ℕ) (r : Reading) (given : List Piece) (is : IsTokenReading text r given) (next : Option Token)
     → IsNext text r.place (Ok next) → first (kinds is.read.later) ≡ kind_of next
 known text r given is next h = next_kind is.read.later next (same_next text r.place is.read.later next is.read.reads h)
 
-pub shifts : (text : List ℕ) (r : Reading) (given : List Piece) (next : Option Token) (move : Move) → IsReading text r given
+pub shifts : (text : List ℕ) (r : Reading) (given : List Piece) (next : Option Token) (move : Move) → IsTokenReading text r given
     → IsNext text r.place (Ok next) → IsMove r.at (kind_of next) (Some move) → IsGood r.at (kind_of next) move
     → move.takes ≡ false
-    → IsReading text (record { place = r.place; behind = r.behind; at = move.to; last = r.last; from = r.from })
+    → IsTokenReading text (record { place = r.place; behind = r.behind; at = move.to; last = r.last; from = r.from })
     (given ++ with_piece move.piece [])
 shifts text r given next move is h goes good keeps =
     let same = known text r given is next h in
@@ -175,7 +175,7 @@ from_more (u ∷ []) t = refl
 from_more (u ∷ w ∷ us) t = from_more (w ∷ us) t
 
 -- the tokens up to the one that is used up
-abbrev read_more : (text : List ℕ) (r : Reading) (given : List Piece) (t : Token) (move : Move) → IsReading text r given
+abbrev read_more : (text : List ℕ) (r : Reading) (given : List Piece) (t : Token) (move : Move) → IsTokenReading text r given
     → IsNext text r.place (Ok (Some t)) → IsMove r.at (Some t.kind) (Some move) → IsGood r.at (Some t.kind) move
     → move.takes ≡ true → HasRead text t.to move.to (given ++ with_piece move.piece [])
 read_more text r given t move is h goes good takes =
@@ -208,10 +208,10 @@ read_more text r given t move is h goes good takes =
           (sym (all_given given is.one is.two move.piece p is.whole)) front);
     }
 
-pub takes_token : (text : List ℕ) (r : Reading) (given : List Piece) (t : Token) (move : Move) → IsReading text r given
+pub takes_token : (text : List ℕ) (r : Reading) (given : List Piece) (t : Token) (move : Move) → IsTokenReading text r given
     → IsNext text r.place (Ok (Some t)) → t.to ≤ length text → IsMove r.at (Some t.kind) (Some move)
     → IsGood r.at (Some t.kind) move → move.takes ≡ true
-    → IsReading text (record { place = t.to; behind = move.to; at = move.to; last = Some t.kind; from = t.from })
+    → IsTokenReading text (record { place = t.to; behind = move.to; at = move.to; last = Some t.kind; from = t.from })
     (given ++ with_piece move.piece [])
 takes_token text r given t move is h inside goes good takes =
     let read = read_more text r given t move is h goes good takes in
@@ -264,13 +264,13 @@ pub record Stands (text : List ℕ) (r : Reading) (next : Option Token) (move : 
   pub good : IsGood r.at (kind_of next) move
 
 advanced_by : (text : List ℕ) (r : Reading) (given : List Piece) (t : Token) (move : Move) (b : Bool) → move.takes ≡ b
-    → IsReading text r given → Stands text r (Some t) move
-    → IsReading text (moved b r t move.to) (given ++ with_piece move.piece [])
+    → IsTokenReading text r given → Stands text r (Some t) move
+    → IsTokenReading text (moved b r t move.to) (given ++ with_piece move.piece [])
 advanced_by text r given t move true e is s = takes_token text r given t move is s.token s.inside s.goes s.good e
 advanced_by text r given t move false e is s = shifts text r given (Some t) move is s.token s.goes s.good e
 
-pub advance : (text : List ℕ) (r : Reading) (given : List Piece) (next : Option Token) (move : Move) → IsReading text r given
-    → Stands text r next move → IsReading text (advanced r next move) (given ++ with_piece move.piece [])
+pub advance : (text : List ℕ) (r : Reading) (given : List Piece) (next : Option Token) (move : Move) → IsTokenReading text r given
+    → Stands text r next move → IsTokenReading text (advanced r next move) (given ++ with_piece move.piece [])
 advance text r given None move is s =
     shifts text r given None move is s.token s.goes s.good (never_takes r.at s.goes.fits move s.goes.computed)
 advance text r given (Some t) move is s = advanced_by text r given t move move.takes refl is s
@@ -285,32 +285,6 @@ pub fewer : (text : List ℕ) (r : Reading) (next : Option Token) (move : Move) 
 fewer text r None move le s = omega (arith, s.good.nearer (never_takes r.at s.goes.fits move s.goes.computed))
 fewer text r (Some t) move le s = fewer_by text r t move move.takes refl le s
 
--- a reading has made moves without a piece
-pub record Keeps (text : List ℕ) (start now : Reading) : Type 0 where
-  pub some : (given : List Piece) × IsReading text start given
-  pub same : (given : List Piece) → IsReading text start given → IsReading text now given
-  pub left : moves_left text now ≤ moves_left text start
-
-pub inside : (text : List ℕ) (start now : Reading) → Keeps text start now → now.place ≤ length text
-inside text start now k = (k.same k.some.0 k.some.1).inside
-
-pub keeps_more : (text : List ℕ) (start now : Reading) (next : Option Token) (move : Move) → Keeps text start now
-    → Stands text now next move → move.piece ≡ None → Keeps text start (advanced now next move)
-keeps_more text start now next move k s e = record {
-  some = k.some;
-  same = λ given is. subst (λ (q : List Piece). IsReading text (advanced now next move) q)
-      (ap (λ (x : Option Piece). given ++ with_piece x []) e ∙ append-nil given)
-      (advance text now given next move (k.same given is) s);
-  left = let less = fewer text now next move (inside text start now k) s in omega (arith, less, k.left);
-}
-
-pub gives_piece : (text : List ℕ) (start now : Reading) (next : Option Token) (move : Move) (x : Piece) → Keeps text start now
-    → Stands text now next move → move.piece ≡ Some x → (given : List Piece) → IsReading text start given
-    → IsReading text (advanced now next move) (given ++ x ∷ [])
-gives_piece text start now next move x k s e given is =
-    subst (λ (y : Option Piece). IsReading text (advanced now next move) (given ++ with_piece y [])) e
-    (advance text now given next move (k.same given is) s)
-
 pub stands_by : (text : List ℕ) (r : Reading) (next : Option Token) (kind : Option TokenKind) (move : Move)
     → kind ≡ kind_of next → IsNext text r.place (Ok next) → IfSome next (λ (t : Token). r.place < t.to)
     → IfSome next (λ (t : Token). t.to ≤ length text) → IsMove r.at kind (Some move) → IsGood r.at kind move
@@ -322,8 +296,3 @@ stands_by text r next kind move same token past inside goes good = record {
   goes = subst (λ (n : Option TokenKind). IsMove r.at n (Some move)) same goes;
   good = subst (λ (n : Option TokenKind). IsGood r.at n move) same good;
 }
-
-pub never_bad : (text : List ℕ) (place : ℕ) (later : List Token) (bad : BadToken) → Reads text place later (length text)
-    → IsNext text place (Err bad) → ⊥
-never_bad text place [] bad h k = let same = one_next text place (Ok None) (Err bad) h k in absurd cc
-never_bad text place (t ∷ ts) bad h k = let same = one_next text place (Ok (Some t)) (Err bad) (h.0, h.1) k in absurd cc

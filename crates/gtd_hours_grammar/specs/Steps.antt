@@ -1,7 +1,9 @@
 -- What is known of the reading, from token to token.
 use Rattle.std.specs.Prelude.{List, ◌≡◌, ◌↔◌, ℕ, ◌+◌, ◌*◌, ◌-◌, ◌≤◌, Bool, true, false, ◌++◌, length, Option, Some, None, Result}
-use Rattle.std.specs.Prelude.{Ok, Err}
-use Rattle.gtd_hours_tokens.specs.Lexing.{AreTokens, Reads}
+use Rattle.std.specs.Prelude.{Ok, Err, ◌⊎◌}
+use Rattle.gtd_hours_tokens.specs.Lexing.{AreTokens, IsTokenFault, Reads}
+use Rattle.gtd_hours_tokens.specs.facts.WholeText.{HasRead as HasReadUpTo}
+use Rattle.gtd_hours_tokens.specs.declared.token.BadToken.{BadToken}
 use Rattle.gtd_hours_parts.specs.declared.part.Part.{Part}
 use Rattle.gtd_hours_grammar.specs.Terms.{Token, TokenKind, Piece, Place, Move}
 use Rattle.gtd_hours_grammar.specs.declared.place.Place.TheVariants as places
@@ -47,8 +49,8 @@ pub record HasRead (text : List ℕ) (place : ℕ) (at : Place) (given : List Pi
   pub leads : (demand : Demand) → (p : List Piece) → (ts : List TokenKind) → Rest demand at p ts
       → Rest demand places.Front (given ++ p) (kinds before ++ ts)
 
--- A reading has come this far in a text, with these pieces.
-pub record IsReading (text : List ℕ) (reading : Reading) (given : List Piece) : Type 0 where
+-- A reading has come this far in a text that is tokens to its end, with these pieces.
+pub record IsTokenReading (text : List ℕ) (reading : Reading) (given : List Piece) : Type 0 where
   pub one : List Piece
   pub two : List Piece
   pub whole : given ≡ one ++ two
@@ -58,6 +60,13 @@ pub record IsReading (text : List ℕ) (reading : Reading) (given : List Piece) 
   pub last : last_kind (kinds read.before) ≡ reading.last
   pub from : last_from read.before ≡ reading.from
   pub gives : GivesTo reading.behind reading.at (first (kinds read.later)) two
+
+-- A reading has come this far in a text, of which only what has been read is known to be tokens, with these pieces.
+pub record IsReading (text : List ℕ) (reading : Reading) (given : List Piece) : Type 0 where
+  pub has_read : HasReadUpTo text reading.place
+  pub inside : reading.place ≤ length text
+  pub stands : IsPlace reading.at
+  pub known : (tokens : List Token) → AreTokens text tokens → IsTokenReading text reading given
 
 -- how many moves can come at most
 abbrev pub moves_left : List ℕ → Reading → ℕ
@@ -93,3 +102,19 @@ ended text false = Err (record { kind = fault.Incomplete; place = length text })
 abbrev pub end_or_fault : List ℕ → Reading → Option Token → Result (Option (Part × Reading)) HoursFault
 end_or_fault text reading None = ended text (is_after reading.at)
 end_or_fault text reading (Some t) = Err (fault_at reading t)
+
+-- a byte with which no token begins, as a fault
+abbrev pub bad_token : ℕ → HoursFault
+bad_token place = record { kind = fault.BadToken; place = place }
+
+-- What is told where a token cannot come next: a byte with which no token begins, wherever there is one, and else that token.
+abbrev pub IsToldAt : List ℕ → Reading → Token → HoursFault → Type 0
+IsToldAt text reading t bad =
+    ((tokens : List Token) × AreTokens text tokens × (bad ≡ fault_at reading t))
+    ⊎ ((place : ℕ) × IsTokenFault text place × (bad ≡ bad_token place))
+
+-- what a reading comes to where no move can be made, of whatever bytes are behind it
+abbrev pub IsEndOrFault : List ℕ → Reading → Option Token → Result (Option (Part × Reading)) HoursFault → Type 0
+IsEndOrFault text reading None result = result ≡ ended text (is_after reading.at)
+IsEndOrFault text reading (Some t) (Err bad) = IsToldAt text reading t bad
+IsEndOrFault text reading (Some t) (Ok next) = ⊥

@@ -13,8 +13,7 @@ pub fn check_hours(text: &[u8]) -> Result<(), HoursFault>
     ensures hours { IfOk result (λ done. (p : List Piece) × IsHoursText text.now p) }
     ensures fault { IfErr result (λ bad. IsFirstFault text.now bad) }
 {
-    let reading = begin(text)?;
-    check_behind(text, reading)
+    check_behind(text, begin())
 }
 
 /// Whether a text of which the beginning has been read is opening hours, or its first fault. Takes no memory.

@@ -1,7 +1,8 @@
 //! Reading a text of opening hours, piece by piece.
 
-ghost use Rattle.std.specs.Prelude.{◌≡◌, ◌<◌, ◌≤◌, ◌∷◌, ◌++◌, [], IfErr, IfOk, IfSome, List, None, Ok, Some, length};
-ghost use Rattle.gtd_hours_tokens.specs.Lexing.{AreTokens, IsNext, Reads};
+ghost use Rattle.std.specs.Prelude.{◌≡◌, ◌<◌, ◌≤◌, ◌∷◌, ◌++◌, [], IfErr, IfOk, IfSome, List, None, Ok, Some, length, ℕ};
+ghost use Rattle.gtd_hours_tokens.specs.Lexing.{IsNext};
+ghost use Rattle.gtd_hours_tokens.specs.facts.WholeText.{HasRead};
 ghost use Rattle.gtd_hours_tokens.specs.declared.token.Token.{Token};
 ghost use Rattle.gtd_hours_parts.specs.declared.piece.Piece.{Piece};
 ghost use Rattle.gtd_hours_grammar.specs.Faults.{IsFirstFault, IsHoursText, ends_years, is_slash, plus_kind};
@@ -10,14 +11,15 @@ ghost use Rattle.gtd_hours_grammar.specs.Runs.{IsGood};
 ghost use Rattle.gtd_hours_grammar.specs.Sound.{IsPlace};
 ghost use Rattle.gtd_hours_parts.specs.SoundPieces.{IsPiece};
 ghost use Rattle.gtd_hours_parts.specs.Values.{IsPartOf};
-ghost use Rattle.gtd_hours_grammar.specs.Steps.{IsMove, IsReading, advanced, end_or_fault, fault_at, kind_of, moves_left};
+ghost use Rattle.gtd_hours_grammar.specs.Steps.{IsEndOrFault, IsMove, IsReading, IsToldAt, advanced, bad_token, fault_at};
+ghost use Rattle.gtd_hours_grammar.specs.Steps.{kind_of, moves_left};
 
 use crate::fault::{FaultKind, HoursFault};
 use crate::fits::{fits, is_judged, is_step_of_years, takes_number, takes_time};
 use crate::moves::next_move;
 use crate::place::{Move, Place};
 use gtd_hours_parts::{Part, part_of};
-use gtd_hours_tokens::{Token, TokenKind, check_tokens, next_token};
+use gtd_hours_tokens::{BadToken, Token, TokenKind, check_tokens, next_token};
 
 /// How far a text of opening hours has been read.
 #[derive(Clone, Copy)]
@@ -34,23 +36,16 @@ pub struct Reading {
     from: usize,
 }
 
-/// The beginning of a text, or the first byte with which no token begins. Takes no memory.
-pub fn begin(text: &[u8]) -> Result<Reading, HoursFault>
-    ensures reading { IfOk result (λ reading. IsReading text.now reading []) }
-    ensures fault { IfErr result (λ bad. IsFirstFault text.now bad) }
+/// The reading of any text, of which nothing has been read.
+pub fn begin() -> Reading
+    ensures { (text : List ℕ) → IsReading text result [] }
 {
-    match check_tokens(text) {
-        Ok(()) => Ok(Reading {
-            place: 0,
-            behind: Place::Front,
-            at: Place::Front,
-            last: None,
-            from: 0,
-        }),
-        Err(bad) => Err(HoursFault {
-            kind: FaultKind::BadToken,
-            place: bad.place,
-        }),
+    Reading {
+        place: 0,
+        behind: Place::Front,
+        at: Place::Front,
+        last: None,
+        from: 0,
     }
 }
 
@@ -68,7 +63,7 @@ pub fn next_part(text: &[u8], reading: Reading) -> Result<Option<(Part, Reading)
 {
     let mut now = reading;
     loop {
-        let next = token_behind(text, now.place);
+        let next = token_behind(text, now.place)?;
         let Some(step) = step_from(now.at, kind_of(next)) else {
             return end_or_fault(text, now, next);
         };
@@ -79,17 +74,40 @@ pub fn next_part(text: &[u8], reading: Reading) -> Result<Option<(Part, Reading)
     }
 }
 
-// The next token, where the text is known to be tokens.
-fn token_behind(text: &[u8], place: usize) -> Option<Token>
+// A byte with which no token begins, as a fault.
+fn bad_token(bad: BadToken) -> HoursFault
+    ensures { result ≡ bad_token bad.place }
+{
+    HoursFault {
+        kind: FaultKind::BadToken,
+        place: bad.place,
+    }
+}
+
+// The next token, behind those that have been read.
+fn token_behind(text: &[u8], place: usize) -> Result<Option<Token>, HoursFault>
     requires inside { place ≤ length text.now }
-    requires tokens { (later : List Token) × Reads text.now place later (length text.now) }
-    ensures next { IsNext text.now place (Ok result) }
-    ensures past { IfSome result (λ token. place < token.to) }
-    ensures inside { IfSome result (λ token. token.to ≤ length text.now) }
+    requires read { HasRead text.now place }
+    ensures next { IfOk result (λ next. IsNext text.now place (Ok next)) }
+    ensures past { IfOk result (λ next. IfSome next (λ token. place < token.to)) }
+    ensures inside { IfOk result (λ next. IfSome next (λ token. token.to ≤ length text.now)) }
+    ensures fault { IfErr result (λ bad. IsFirstFault text.now bad) }
 {
     match next_token(text, place) {
-        Ok(next) => next,
-        Err(_) => unreachable!(),
+        Ok(next) => Ok(next),
+        Err(bad) => Err(bad_token(bad)),
+    }
+}
+
+// The first fault where a token cannot come next. Bytes behind it with which no token begins are told first.
+fn first_fault(text: &[u8], now: Reading, token: Token) -> HoursFault
+    requires inside { token.to ≤ length text.now }
+    requires read { HasRead text.now token.to }
+    ensures { IsToldAt text.now now token result }
+{
+    match check_tokens(text, token.to) {
+        Ok(()) => fault_at(now, token),
+        Err(bad) => bad_token(bad),
     }
 }
 
@@ -156,10 +174,12 @@ fn end_or_fault(
     now: Reading,
     next: Option<Token>,
 ) -> Result<Option<(Part, Reading)>, HoursFault>
-    ensures { result ≡ end_or_fault text.now now next }
+    requires inside { IfSome next (λ token. token.to ≤ length text.now) }
+    requires read { IfSome next (λ token. HasRead text.now token.to) }
+    ensures { IsEndOrFault text.now now next result }
 {
     match next {
-        Some(token) => Err(fault_at(now, token)),
+        Some(token) => Err(first_fault(text, now, token)),
         None => {
             if now.at.is_after() {
                 Ok(None)

@@ -33,10 +33,7 @@ pub fn read_hours(alloc: Global, text: &[u8]) -> Result<Hours, HoursTextFault>
     ensures hours { IfOk result (λ hours. StandsFor text.now hours) }
     ensures fault { IfErr result (λ fault. IsFaultOf text.now fault) }
 {
-    match begin(text) {
-        Ok(begun) => build(alloc, text, begun),
-        Err(bad) => Err(HoursTextFault::Fault(bad)),
-    }
+    build(alloc, text, begin())
 }
 
 // The hours of a text of which nothing has been read.

@@ -3,6 +3,7 @@
 ghost use Rattle.std.specs.Prelude.{◌≡◌, ◌≤◌, ◌<◌, length, IfErr, IfOk, IfSome, List};
 ghost use Rattle.gtd_hours_tokens.specs.Lexing.{AreTokens, IsNext, IsTokenFault};
 ghost use Rattle.gtd_hours_tokens.specs.TokenAt.{front, token_at};
+ghost use Rattle.gtd_hours_tokens.specs.facts.WholeText.{HasRead};
 ghost use Rattle.gtd_hours_tokens.specs.declared.token.Token.{Token};
 
 use crate::numbers::number_front;
@@ -30,13 +31,15 @@ pub fn next_token(text: &[u8], place: usize) -> Result<Option<Token>, BadToken>
     }
 }
 
-/// Whether a text is tokens from its front to its end, or the place of the first byte that is no space and with which no token
-/// begins. Takes no memory.
-pub fn check_tokens(text: &[u8]) -> Result<(), BadToken>
+/// Whether a text that is tokens up to a place is tokens to its end, or the place of the first byte that is no space and with
+/// which no token begins. Takes no memory.
+pub fn check_tokens(text: &[u8], from: usize) -> Result<(), BadToken>
+    requires inside { from ≤ length text.now }
+    requires read { HasRead text.now from }
     ensures tokens { IfOk result (λ done. (tokens : List Token) × AreTokens text.now tokens) }
     ensures fault { IfErr result (λ bad. IsTokenFault text.now bad.place) }
 {
-    let mut place = 0;
+    let mut place = from;
     while let Some(token) = next_token(text, place)? {
         place = token.to;
     }

@@ -1,7 +1,9 @@
--- In a text that is known to be tokens, no bad byte comes next, so that arm is never reached.
-use Rattle.gtd_hours_grammar.proofs.ReadLemmas.{never_bad}
+-- A byte with which no token begins, behind bytes that have been read as tokens, is the first fault.
+use Rattle.std.proofs.Common.{refl}
+use Rattle.gtd_hours_tokens.specs.facts.WholeText.{fault_read}
+use Rattle.gtd_hours_grammar.specs.Faults.{IsFirstFault}
 use Rattle.gtd_hours_grammar.proofs.reading.token_behind.Goals as goal
 
-pub unreachable-requires : goal.unreachable-requires
-unreachable-requires c =
-    never_bad c.args.text.now c.args.place c.requires.tokens.0 c.in-Err.field-0 c.requires.tokens.1 c.in-Err.ensures.next
+pub returns-in-Err-clause-fault : goal.returns-in-Err-clause-fault
+returns-in-Err-clause-fault c = rw (c.bad_token.ensures) (IsFirstFault.bad_token refl
+    (fault_read c.args.text.now c.args.place c.in-Err.bad.place c.requires.read c.in-Err.ensures.next))
