@@ -1,5 +1,5 @@
 -- Which moves are right that complete a part of a list.
-use Rattle.std.proofs.Common.{◌≡◌, ℕ, Bool, true, false, Option, Some, None, List, ◌∷◌, IfSome, if◌then◌else◌}
+use Rattle.std.proofs.Common.{◌≡◌, ◌≤◌, ℕ, Bool, true, false, Option, Some, None, List, ◌∷◌, IfSome, if◌then◌else◌}
 use Rattle.std.proofs.Common.{refl, ap, subst, sym, arith, rules}
 use Rattle.std.specs.Prelude.{nat_le, ◌==◌}
 use Rattle.std.proofs.lemmas.Bool.{leb-false, leb-true}
@@ -25,8 +25,8 @@ use Rattle.gtd_hours_parts.specs.Pieces.{AreBackWeeks, AreWrittenDates, EndsRang
 use Rattle.gtd_hours_parts.specs.Pieces.{end_month, end_year}
 use Rattle.gtd_hours_parts.specs.Pieces.{final_week, final_year, week_one}
 use Rattle.gtd_hours_grammar.specs.Sound.{Both, Fits, IsPlace, YearOrDay, YearOrListed, is_last_year}
-use Rattle.gtd_hours_grammar.specs.Moves.{back_reach, clock, dates_end, front_reach, offset_of, take, week_pair, written, year_or_day}
-use Rattle.gtd_hours_grammar.specs.Moves.{year_or_listed}
+use Rattle.gtd_hours_grammar.specs.Moves.{back_reach, clock, dates_end, front_reach, offset_of, take, week_pair, written}
+use Rattle.gtd_hours_grammar.specs.Moves.{year_or_day, year_or_listed}
 use Rattle.gtd_hours_grammar.specs.facts.Reaching.{back_narrow, back_suits, front_narrow, front_suits}
 use Rattle.gtd_hours_grammar.specs.Terms.{Move, Piece, Place}
 use Rattle.gtd_hours_grammar.specs.Runs.{IsGood, from}
@@ -270,7 +270,8 @@ bracket_close_good k r next same =
         is = rest.is;
         reaches = rest.reaches;
         behind = rest.behind;
-        more = More.none p (token.CloseBracket ∷ ts) rest.pieces (ap (λ (l : List TokenKind). token.CloseBracket ∷ l) rest.tokens);
+        more = More.none p (token.CloseBracket ∷ ts) rest.pieces
+            (ap (λ (l : List TokenKind). token.CloseBracket ∷ l) rest.tokens);
       };
       stands = record {};
       nearer = λ h. absurd cc;

@@ -106,7 +106,8 @@ kinds_one [] t ts = refl
 kinds_one (u ∷ us) t ts = ap (λ (l : List TokenKind). u.kind ∷ l) (kinds_one us t ts)
 
 pub front_read : (text : List ℕ) (tokens : List Token) → AreTokens text tokens
-    → IsReading text (record { place = 0; behind = places.Front; at = places.Front; before_last = None; last = None; from = 0 }) []
+    → IsReading text
+    (record { place = 0; behind = places.Front; at = places.Front; before_last = None; last = None; from = 0 }) []
 front_read text tokens are = record {
   one = [];
   two = [];

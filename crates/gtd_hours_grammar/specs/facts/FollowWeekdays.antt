@@ -66,10 +66,10 @@ more_places : (demand : Demand) (k : ℕ) (o : Option Offset) (later : List Piec
     (ts : List TokenKind) → More (IsPlaces k o) later rest p ts → GoesOn demand k o later rest → GoesOn demand k o p ts
 more_places demand k o later rest p ts (More.none p' ts' e f) go = λ r reach.
     renamed demand (places.BracketEnd k r) p later ts rest e f (go r reach)
-more_places demand k o later rest p ts (More.comma p' q ts' us vs e one more) go = λ r reach.
+more_places demand k o later rest p ts (More.comma p' q ts' us vs e is more) go = λ r reach.
     subst (Runs demand (places.BracketEnd k r) p) (sym e)
     (sign_taken demand (places.BracketEnd k r) (places.Bracket k r) p token.Comma us (λ x. x) refl
-    (one_place demand k o r p q us vs one reach (more_places demand k o later rest q vs more go)))
+    (one_place demand k o r p q us vs is reach (more_places demand k o later rest q vs more go)))
 
 -- ---- an offset behind brackets
 
