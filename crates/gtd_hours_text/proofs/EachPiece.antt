@@ -280,18 +280,18 @@ all_weeks = all_of names_weeks weeks_of
 front_movable : (o : Offset) (n : ℕ) → IsOffsetNumber o.days → CanMove o false n ⊎ (CanMove o false n → ⊥)
 front_movable o n is = elim (cases_lt 4 n) [
   | inl late ↦ inr (λ h. omega (arith, late, h.1.0))
-  | inr early ↦ inl (is.2, early, is.3, λ e. is.2, λ e f. absurd cc)
+  | inr early ↦ inl (is.2, (early, is.3, λ e. is.2, λ e f. absurd cc))
 ]
 
 back_by : (before : Bool) (days n : ℕ) → 1 ≤ days → days ≤ 27
     → ((1 ≤ days) × IsMovable n true days before) ⊎ ((1 ≤ days) × IsMovable n true days before → ⊥)
 back_by true days n some few = elim (cases_lt 28 (7 * n + days)) [
   | inl far ↦ inr (λ h. let near = h.1.3 refl refl in omega (arith, far, near))
-  | inr near ↦ inl (some, omega (arith, near, some), few, λ e. some, λ e f. near)
+  | inr near ↦ inl (some, (omega (arith, near, some), few, λ e. some, λ e f. near))
 ]
 back_by false days n some few = elim (cases_lt 4 n) [
   | inl late ↦ inr (λ h. omega (arith, late, h.1.0))
-  | inr early ↦ inl (some, early, few, λ e. some, λ e f. absurd cc)
+  | inr early ↦ inl (some, (early, few, λ e. some, λ e f. absurd cc))
 ]
 
 back_movable : (o : Offset) (n : ℕ) → IsOffsetNumber o.days → CanMove o true n ⊎ (CanMove o true n → ⊥)

@@ -198,7 +198,7 @@ no_items IsOne = record {
 }
 
 -- one of a list, before what follows it in the list
-one_of : (IsOne : Text) (p q later : List Piece) (us vs rest : List TokenKind)
+pub one_of : (IsOne : Text) (p q later : List Piece) (us vs rest : List TokenKind)
     → IsOne (p ++ (q ++ later)) (us ++ (vs ++ rest)) (q ++ later) (vs ++ rest)
     → IsOne ((p ++ q) ++ later) ((us ++ vs) ++ rest) (q ++ later) (vs ++ rest)
 one_of IsOne p q later us vs rest one =
