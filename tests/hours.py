@@ -31,7 +31,7 @@ RANDOM_DAYS = 200
 SAMPLES = 12
 FEWEST_TEXTS, FEWEST_FAULTS, FEWEST_LOOSE, MOST_BASIC_DOMAINS = 100, 40, 60, 128
 ENDINGS = ["", "off", "Mo", "-10:00", "10:00", "/7", "7", "]", "1]", "5]", "1", "31", "53", "Jan", "Dec 31", "2799"]
-ENDINGS += ["2799 Dec 31"]
+ENDINGS += ["2799 Dec 31", "1 day", "5] +1 day", "day"]
 DATED_RANGE = re.compile(r"[0-9]{4} *[A-Z][a-z]{2} *([0-9]+ *- *[0-9]{4}|-)")
 
 
@@ -193,7 +193,13 @@ class Maker(random.Random):
 
     def weekday(self):
         first, last = self.choices(hours_model.WEEKDAYS, k=2)
-        return self.choice([first, f"{first}-{last}", f"{first}[{self.listed(self.place)}]"])
+        return self.choice([first, f"{first}-{last}", f"{first}[{self.listed(self.place)}]", self.moved(first)])
+
+    def moved(self, weekday):
+        """Days after or before places of a weekday."""
+        places = self.choice(["1", "2-4", "-1", "3,-2"])
+        offset = self.choice([f"+{self.randint(1, 27)}", f"-{self.randint(1, 14)}"])
+        return f"{weekday}[{places}] {offset} {self.choice(['day', 'days'])}"
 
     def place(self):
         return self.choice(["1-3", f"{self.randint(1, 5)}", f"-{self.randint(1, 5)}"])
@@ -274,8 +280,8 @@ def check_damaged(text):
     until = place + len((text[place:].split(" ") or [""])[0])
     if kind == "Range" and text[until:until + 2] == " /":
         until += 2  # weeks that go back are refused with a step
-    if kind == "Years":
-        until += 1 + len(text[until + 1:].split(" ")[0])  # the step behind the slash
+    if kind == "Years" or kind == "Range" and text[place] == "-":
+        until += 1 + len(text[until + 1:].split(" ")[0])  # the step behind the slash, or the days behind the sign
     expect(kind == "Incomplete" or not can_become_hours(text[:until]), f"{text!r}: {fault}, but that can become hours")
     expect(can_become_hours(text[:place]), f"{text!r}: {fault}, but it should be earlier")
 

@@ -14,7 +14,7 @@ ONE_DAY = datetime.timedelta(1)
 MONTHS = "Jan Feb Mar Apr May Jun Jul Aug Sep Oct Nov Dec".split()
 WEEKDAYS = "Mo Tu We Th Fr Sa Su".split()
 OPENS = {"open": True, "on": True, "closed": False, "off": False}
-NOT_READ = "PH SH easter sunrise sunset dawn dusk unknown day days".split()
+NOT_READ = "PH SH easter sunrise sunset dawn dusk unknown".split()
 LONGEST = 36600
 LAST_YEAR, MOST_YEARS = 2799, 128
 TOKENS = [
@@ -55,6 +55,8 @@ def kind_of(word):
         return "weekday"
     if word in OPENS:
         return "modifier"
+    if word in ("day", "days"):
+        return "day"
     return "week" if word == "week" else "not read" if word in NOT_READ else None
 
 
@@ -98,8 +100,9 @@ class Reader:
         if self.at == len(self.found):
             raise Fault("Incomplete", self.end)
         last = self.found[self.at - 1] if self.at else None
-        years = last is not None and (last.kind == "+" or last.kind == "number" and len(last.text) == 4)
-        unread = self.peek() == "not read" or self.peek() == "+" and not years
+        plain = last is not None and (last.kind in ("+", "weekday") or last.kind == "number" and len(last.text) == 4)
+        dated = self.peek() == "day" and [token.kind for token in self.found[max(self.at - 2, 0):self.at]] == ["-", "number"]
+        unread = self.peek() == "not read" or self.peek() == "+" and not plain or dated
         raise Fault("Unsupported" if unread else "Unexpected", self.found[self.at].place)
 
     def check(self, holds):
@@ -289,8 +292,26 @@ class Reader:
         if self.goes("["):
             items = self.listed(lambda: self.places(weekday), lambda: True)
             self.take("]")
-            return items
+            return self.moved(items)
         return [("weekdays", weekday, self.weekday() if self.goes("-") else weekday)]
+
+    def moved(self, items):
+        """Places, with the days after or before them if there are any: not of a fifth place, and not back before the fourth last
+        week."""
+        if self.peek() not in ("+", "-"):
+            return items
+        sign, is_before = self.found[self.at], self.peek() == "-"
+        weeks_back = 4 - max((number for kind, _, number in items if kind == "back"), default=0)
+        if any(number == 5 for _, _, number in items) or is_before and weeks_back == 0:
+            raise Fault("Range", sign.place)
+        self.at += 1
+        if self.peek() == "weekday":
+            raise Fault("Unsupported", self.found[self.at].place)
+        days = self.number([1, 2], 1, 27)
+        if is_before and any(kind == "back" for kind, _, _ in items) and days > 7 * weeks_back:
+            raise Fault("Range", sign.place)
+        self.take("day")
+        return [("moved", weekday, number, kind == "back", -days if is_before else days) for kind, weekday, number in items]
 
     def places(self, weekday):
         if self.goes("-"):
@@ -338,6 +359,8 @@ def holds(selector, date):
         return first <= date <= last
     if kind == "weekdays":
         return is_round(first, last, date.isoweekday())
+    if kind == "moved":
+        return holds(("back" if selector[3] else "place", first, last), date - ONE_DAY * selector[4])
     before = date.day if kind == "place" else calendar.monthrange(date.year, date.month)[1] - date.day + 1
     return date.isoweekday() == first and (before + 6) // 7 == last
 
@@ -392,7 +415,9 @@ def text_of(selector, alone=True):
         return ranged(*(f"{date.year} {MONTHS[date.month - 1]} {date.day}" for date in (first, last)))
     if kind == "weekdays":
         return ranged(WEEKDAYS[first - 1], WEEKDAYS[last - 1])
-    return f"{WEEKDAYS[first - 1]}[{'-' if kind == 'back' else ''}{last}]"
+    is_back = kind == "back" or kind == "moved" and selector[3]
+    offset = f" {selector[4]:+} {'day' if abs(selector[4]) == 1 else 'days'}" if kind == "moved" else ""
+    return f"{WEEKDAYS[first - 1]}[{'-' if is_back else ''}{last}]{offset}"
 
 
 def has_times(rule):

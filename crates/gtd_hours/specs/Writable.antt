@@ -1,5 +1,5 @@
 -- Which hours can be written in the syntax of OpenStreetMap.
-use Rattle.std.specs.Prelude.{◌≡◌, Bool, true, false, List, [], ◌∷◌, ◌++◌}
+use Rattle.std.specs.Prelude.{◌≡◌, Bool, true, false, List, [], ◌∷◌, ◌++◌, nat_lt}
 use Rattle.std.specs.List.{list_all}
 use Rattle.gtd_hours.specs.declared.hours.Kind.{Kind}
 use Rattle.gtd_hours.specs.declared.hours.Link.TheVariants as link
@@ -24,10 +24,12 @@ abbrev pub is_weeks : Selector → Bool
 is_weeks (selector.Weeks x) = true
 is_weeks x = false
 
+-- a place with no days from it is one of the two before
 abbrev pub is_weekdays : Selector → Bool
 is_weekdays (selector.Weekdays x) = true
 is_weekdays (selector.Nth x) = true
 is_weekdays (selector.NthBack x) = true
+is_weekdays (selector.Moved x) = nat_lt 0 x.days
 is_weekdays x = false
 
 -- ---- rules

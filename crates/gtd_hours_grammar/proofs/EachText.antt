@@ -150,7 +150,7 @@ read_on (suc fuel) text r so enough =
 -- ---- the whole text
 
 abbrev start : Reading
-start = record { place = 0; behind = places.Front; at = places.Front; last = None; from = 0 }
+start = record { place = 0; behind = places.Front; at = places.Front; before_last = None; last = None; from = 0 }
 
 read_tokens : (text : List ℕ) (tokens : List Token) → AreTokens text tokens → Read text
 read_tokens text tokens are =

@@ -14,9 +14,9 @@ use Rattle.gtd_hours_grammar.specs.declared.place.Place.TheVariants as places
 use Rattle.gtd_hours_grammar.specs.declared.reading.Reading.{Reading}
 use Rattle.gtd_hours_grammar.specs.Grammar.{AreHours, CanGoOn, Demand, Follow, More, in_full, so_far}
 use Rattle.gtd_hours_grammar.specs.Grammar.{by_place, with_years}
-use Rattle.gtd_hours_grammar.specs.Faults.{FitsByPlace, IsFirstFault, IsHoursText, IsMisfitKind, are_alike, ends_years}
-use Rattle.gtd_hours_grammar.specs.Faults.{NeedsYears, is_slash, kinds}
-use Rattle.gtd_hours_grammar.specs.Faults.{last_from, plus_kind, told_at}
+use Rattle.gtd_hours_grammar.specs.Faults.{FitsByPlace, IsFirstFault, IsHoursText, IsMisfitKind, are_alike, dash_kind}
+use Rattle.gtd_hours_grammar.specs.Faults.{NeedsYears, day_kind, is_offset, is_told_before, kind_before, kinds}
+use Rattle.gtd_hours_grammar.specs.Faults.{last_from, last_kind, plus_kind, told_at, weekday_kind}
 use Rattle.gtd_hours_grammar.specs.Kinds.{misfit_of, number_misfit, place_of, range_if}
 use Rattle.gtd_hours_grammar.specs.Places.{Rest}
 use Rattle.gtd_hours_grammar.specs.Places.BehindDate.{none}
@@ -220,9 +220,15 @@ month_kind text r given t is m false same h goes e = λ fits.
     (subst (λ (k : TokenKind). Follow by_place stage.Front fits.p (kinds is.read.before ++ k ∷ fits.after))
     (same_month m fits.other fits.alike) fits.follow)
 
+same_signs : (text : List ℕ) (r : Reading) (given : List Piece) (is : IsTokenReading text r given)
+    → is_offset r.before_last r.last ≡ is_offset (kind_before (kinds is.read.before)) (last_kind (kinds is.read.before))
+same_signs text r given is =
+    ap (λ (o : Option TokenKind). is_offset o r.last) (sym is.before_last)
+    ∙ ap (is_offset (kind_before (kinds is.read.before))) (sym is.last)
+
 misfit_kind : (text : List ℕ) (r : Reading) (given : List Piece) (t : Token) (is : IsTokenReading text r given) (k : TokenKind)
     → t.kind ≡ k → IsNext text r.place (Ok (Some t)) → IsMove r.at (Some k) None
-    → IsMisfitKind (kinds is.read.before) k (misfit_of r.behind r.at r.last k)
+    → IsMisfitKind (kinds is.read.before) k (misfit_of r.behind r.at r.before_last r.last k)
 misfit_kind text r given t is (token.Number v d) same h goes =
     number_kind text r given t is v d (is_judged r.at (token.Number v d) with_years) (takes_number r.behind) same h goes refl refl
 misfit_kind text r given t is (token.Time a b) same h goes = time_kind text r given is a b (takes_time r.behind) refl
@@ -231,15 +237,23 @@ misfit_kind text r given t is (token.Month m) same h goes =
 misfit_kind text r given t is token.Slash same h goes =
     slash_kind text r given t is (is_judged r.at token.Slash by_place) same h goes refl
 misfit_kind text r given t is token.Unsupported same h goes = refl
-misfit_kind text r given t is token.Plus same h goes = ap (λ (o : Option TokenKind). plus_kind (ends_years o)) (sym is.last)
+misfit_kind text r given t is token.Plus same h goes = ap plus_kind (sym is.last)
+misfit_kind text r given t is token.Dash same h goes = ap dash_kind (sym is.last)
+misfit_kind text r given t is token.Day same h goes =
+    ap (λ (o : Option TokenKind). day_kind o r.last) (sym is.before_last)
+    ∙ ap (day_kind (kind_before (kinds is.read.before))) (sym is.last)
+misfit_kind text r given t is (token.Weekday k) same h goes = ap weekday_kind (same_signs text r given is)
 misfit_kind text r given t is k same h goes = λ fits. absurd cc
 
 -- where the fault is told
-placed : (before : List Token) (from : ℕ) (t : Token) (kind : FaultKind) → last_from before ≡ from
-    → place_of kind from t ≡ told_at before t kind
-placed before from t fault.Years e = sym e
-placed before from t fault.Range e = ap (λ (n : ℕ). if is_slash t.kind then n else t.from) (sym e)
-placed before from t kind e = refl
+placed : (before : List Token) (from : ℕ) (offset : Bool) (t : Token) (kind : FaultKind) → last_from before ≡ from
+    → offset ≡ is_offset (kind_before (kinds before)) (last_kind (kinds before))
+    → place_of kind offset from t ≡ told_at before t kind
+placed before from offset t fault.Years e same = sym e
+placed before from offset t fault.Range e same =
+    ap (λ (n : ℕ). if is_told_before offset t.kind then n else t.from) (sym e)
+    ∙ ap (λ (b : Bool). if is_told_before b t.kind then last_from before else t.from) same
+placed before from offset t kind e same = refl
 
 pub misfits : (text : List ℕ) (r : Reading) (given : List Piece) (t : Token) → IsTokenReading text r given
     → IsNext text r.place (Ok (Some t)) → IsMove r.at (Some t.kind) None
@@ -261,7 +275,8 @@ misfits text r given t is h goes =
           let at = gives.runs so_far behind.p more.after behind.runs in
           run_refused r.at at.p t.kind more.after goes.fits goes.bit (sym goes.computed) at.runs;
       kind = misfit_kind text r given t is t.kind refl h goes;
-      place = placed is.read.before r.from t (misfit_of r.behind r.at r.last t.kind) is.from;
+      place = placed is.read.before r.from (is_offset r.before_last r.last) t
+          (misfit_of r.behind r.at r.before_last r.last t.kind) is.from (same_signs text r given is);
     })
 
 -- ---- both

@@ -1,5 +1,5 @@
 -- From every place with numbers in range some text goes on, also with a number or a time where one can come next.
-use Rattle.std.proofs.Common.{◌≡◌, ℕ, true, false, List, [], ◌∷◌, Option, Some, None, refl, sym, ap, subst, arith}
+use Rattle.std.proofs.Common.{◌≡◌, ℕ, Bool, true, false, List, [], ◌∷◌, Option, Some, None, refl, sym, ap, subst, arith}
 use Rattle.std.specs.Prelude.{◌&&◌, nat_le, IfSome, is_some}
 use Rattle.std.proofs.lemmas.Bool.{and_parts, leb-true}
 use Rattle.gtd_hours.specs.Ranges.{IsMonth, IsWeekday}
@@ -8,6 +8,7 @@ use Rattle.gtd_hours_parts.specs.declared.digits.Digits.{Digits}
 use Rattle.gtd_hours_parts.specs.declared.clock.ClockTime.{ClockTime}
 use Rattle.gtd_hours_parts.specs.Numbers.{IsPlaceNumber, IsStepNumber, IsWeekNumber, IsYearNumber}
 use Rattle.gtd_hours_parts.specs.Times.{IsBegin}
+use Rattle.gtd_hours_parts.specs.declared.piece.Offset.{Offset}
 use Rattle.gtd_hours_parts.specs.declared.piece.WrittenDate.{WrittenDate}
 use Rattle.gtd_hours_parts.specs.declared.piece.LastDate.TheVariants as last_date
 use Rattle.gtd_hours_grammar.specs.Terms.{TokenKind, Piece, Stage, Place}
@@ -25,12 +26,12 @@ use Rattle.gtd_hours_grammar.specs.Places.{Behind, BehindDate, FromDate, Rest}
 use Rattle.gtd_hours_grammar.specs.Places.BehindDate.{day, none}
 use Rattle.gtd_hours.specs.declared.hours.Link.TheVariants as link
 use Rattle.gtd_hours_grammar.specs.Runs.{is_judged, is_step}
-use Rattle.gtd_hours_grammar.specs.Sound.{IsLastYear, IsPlace, takes_number, takes_time}
+use Rattle.gtd_hours_grammar.specs.Sound.{IsLastYear, IsPlace, Reaches, takes_number, takes_time}
 use Rattle.gtd_hours_grammar.proofs.EndingsOfParts.{a_date, a_month, a_month_day, a_year, after_number, another, behind}
 use Rattle.gtd_hours_grammar.proofs.EndingsOfParts.{bracket_closed, dated_after, digit_one, done, first_day, first_of}
 use Rattle.gtd_hours_grammar.proofs.EndingsOfParts.{first_of-is, in_brackets, midnight, midnight-is, opened, other_rule}
 use Rattle.gtd_hours_grammar.proofs.EndingsOfParts.{some_date, some_date-is, some_times, some_year, some_year-is, then}
-use Rattle.gtd_hours_grammar.proofs.EndingsOfParts.{dates_then, times_after, to_same}
+use Rattle.gtd_hours_grammar.proofs.EndingsOfParts.{dates_then, no_offset, times_after, to_same}
 
 -- a text that goes on from a place
 pub record Ending (at : Place) : Type 0 where
@@ -217,29 +218,59 @@ to_weekday d k h =
 place_one : IsPlaceNumber digit_one
 place_one = (refl, omega arith, omega arith)
 
-first_place : (d : Demand) (k : ℕ)
-    → Rest d (places.Bracket k) (piece.Places k digit_one None ∷ []) (token.Number 1 1 ∷ token.CloseBracket ∷ [])
-first_place d k =
-    in_brackets d k (piece.Places k digit_one None ∷ []) [] (token.Number 1 1 ∷ token.CloseBracket ∷ []) []
-    (IsPlaces.one digit_one refl refl place_one) (done d stage.Weekdays refl)
+first_place : (d : Demand) (k r : ℕ)
+    → Rest d (places.Bracket k r) (piece.Places k digit_one None ∷ piece.PlacesEnd None ∷ [])
+    (token.Number 1 1 ∷ token.CloseBracket ∷ [])
+first_place d k r =
+    in_brackets d k r (piece.Places k digit_one None ∷ piece.PlacesEnd None ∷ []) [] (token.Number 1 1 ∷ token.CloseBracket ∷ [])
+    [] (IsPlaces.one digit_one refl refl place_one (record {})) (done d stage.Weekdays refl)
 
-one_place : (d : Demand) (k : ℕ) (n : Digits) → IsPlaceNumber n
-    → Rest d (places.Nth k n) (piece.Places k n None ∷ []) (token.CloseBracket ∷ [])
-one_place d k n h =
-    in_brackets d k (piece.Places k n None ∷ []) [] (number n ∷ token.CloseBracket ∷ []) [] (IsPlaces.one n refl refl h)
-    (done d stage.Weekdays refl)
+one_place : (d : Demand) (k : ℕ) (n : Digits) (r : ℕ) → IsPlaceNumber n
+    → Rest d (places.Nth k n r) (piece.Places k n None ∷ piece.PlacesEnd None ∷ []) (token.CloseBracket ∷ [])
+one_place d k n r h =
+    in_brackets d k r (piece.Places k n None ∷ piece.PlacesEnd None ∷ []) [] (number n ∷ token.CloseBracket ∷ []) []
+    (IsPlaces.one n refl refl h (record {})) (done d stage.Weekdays refl)
 
-last_place : (d : Demand) (k : ℕ)
-    → Rest d (places.BracketDash k) (piece.PlaceBack k digit_one ∷ []) (token.Number 1 1 ∷ token.CloseBracket ∷ [])
-last_place d k =
-    in_brackets d k (piece.PlaceBack k digit_one ∷ []) [] (token.Dash ∷ token.Number 1 1 ∷ token.CloseBracket ∷ []) []
-    (IsPlaces.back digit_one refl refl place_one) (done d stage.Weekdays refl)
+last_place : (d : Demand) (k r : ℕ)
+    → Rest d (places.BracketDash k r) (piece.PlaceBack k digit_one ∷ piece.PlacesEnd None ∷ [])
+    (token.Number 1 1 ∷ token.CloseBracket ∷ [])
+last_place d k r =
+    in_brackets d k r (piece.PlaceBack k digit_one ∷ piece.PlacesEnd None ∷ [])
+    [] (token.Dash ∷ token.Number 1 1 ∷ token.CloseBracket ∷ []) []
+    (IsPlaces.back digit_one refl refl place_one (record {})) (done d stage.Weekdays refl)
 
-to_place : (d : Demand) (k : ℕ) (n : Digits) → IsPlaceNumber n
-    → Rest d (places.NthDash k n) (piece.Places k n (Some n) ∷ []) (number n ∷ token.CloseBracket ∷ [])
-to_place d k n h =
-    in_brackets d k (piece.Places k n (Some n) ∷ []) [] (number n ∷ token.Dash ∷ number n ∷ token.CloseBracket ∷ []) []
-    (IsPlaces.range n n refl refl (h, h, omega arith)) (done d stage.Weekdays refl)
+to_place : (d : Demand) (k : ℕ) (n : Digits) (r : ℕ) → IsPlaceNumber n
+    → Rest d (places.NthDash k n r) (piece.Places k n (Some n) ∷ piece.PlacesEnd None ∷ []) (number n ∷ token.CloseBracket ∷ [])
+to_place d k n r h =
+    in_brackets d k r (piece.Places k n (Some n) ∷ piece.PlacesEnd None ∷ [])
+    [] (number n ∷ token.Dash ∷ number n ∷ token.CloseBracket ∷ []) []
+    (IsPlaces.range n n refl refl (h, h, omega arith) (record {})) (done d stage.Weekdays refl)
+
+-- one day, behind the sign of an offset
+abbrev one_day : Bool → Offset
+one_day before = record { is_before = before; days = digit_one }
+
+to_day : (d : Demand) (before : Bool) (r : ℕ) → Reaches r before 1
+    → Rest d (places.OffsetSign before r) (piece.PlacesEnd (Some (one_day before)) ∷ []) (token.Number 1 1 ∷ token.Day ∷ [])
+to_day d before r h = record {
+  later = [];
+  rest = [];
+  offset = Some (one_day before);
+  is = (omega arith, omega arith, omega arith, omega arith);
+  reaches = h;
+  pieces = refl;
+  tokens = refl;
+  behind = behind d stage.Weekdays [] [] (done d stage.Weekdays refl);
+}
+
+days_word : (d : Demand) (o : Offset) → Rest d (places.OffsetNumber o) (piece.PlacesEnd (Some o) ∷ []) (token.Day ∷ [])
+days_word d o = record {
+  later = [];
+  rest = [];
+  pieces = refl;
+  tokens = refl;
+  behind = behind d stage.Weekdays [] [] (done d stage.Weekdays refl);
+}
 
 to_time : (d : Demand) (t : ClockTime) → IsBegin t → Rest d (places.TimeDash t) (piece.Times t t ∷ []) (time t ∷ [])
 to_time d t h =
@@ -556,12 +587,17 @@ ending (places.WeekAgain a b) h =
 ending (places.Weekday k) h =
     record { p = _; ts = []; rest = weekday_then so_far k [] [] h (done so_far stage.Weekdays refl) }
 ending (places.WeekdayDash k) h = record { p = _; ts = _; rest = to_weekday so_far k h }
-ending (places.Bracket k) h = record { p = _; ts = _; rest = first_place so_far k }
-ending (places.BracketDash k) h = record { p = _; ts = _; rest = last_place so_far k }
-ending (places.Nth k n) h = record { p = _; ts = token.CloseBracket ∷ []; rest = one_place so_far k n h.other }
-ending (places.NthDash k n) h = record { p = _; ts = _; rest = to_place so_far k n h.other }
-ending (places.BracketEnd k) h =
-    record { p = _; ts = _; rest = bracket_closed so_far k [] [] (done so_far stage.Weekdays refl) }
+ending (places.Bracket k r) h = record { p = _; ts = _; rest = first_place so_far k r }
+ending (places.BracketDash k r) h = record { p = _; ts = _; rest = last_place so_far k r }
+ending (places.Nth k n r) h = record { p = _; ts = token.CloseBracket ∷ []; rest = one_place so_far k n r h.other }
+ending (places.NthDash k n r) h = record { p = _; ts = _; rest = to_place so_far k n r h.other }
+ending (places.BracketEnd k r) h =
+    record { p = _; ts = _; rest = bracket_closed so_far k r [] [] (done so_far stage.Weekdays refl) }
+ending (places.PlacesEnd r) h =
+    record { p = _; ts = []; rest = no_offset so_far r [] [] (done so_far stage.Weekdays refl) }
+ending (places.OffsetSign before r) h =
+    record { p = _; ts = token.Number 1 1 ∷ token.Day ∷ []; rest = to_day so_far before r h }
+ending (places.OffsetNumber o) h = record { p = _; ts = _; rest = days_word so_far o }
 ending (places.Time t) h = record { p = _; ts = to_same t; rest = to_time so_far t h }
 ending (places.TimeDash t) h = record { p = _; ts = _; rest = to_time so_far t h }
 ending (places.AfterDate y m) h =
@@ -613,14 +649,18 @@ number_ending (places.WeekBack a b) h e = absurd cc
 number_ending (places.WeekAgain a b) h e = absurd cc
 number_ending (places.Weekday k) h e = absurd cc
 number_ending (places.WeekdayDash k) h e = absurd cc
-number_ending (places.Bracket k) h e =
-    record { v = 1; d = 1; p = _; ts = token.CloseBracket ∷ []; rest = first_place by_place k }
-number_ending (places.BracketDash k) h e =
-    record { v = 1; d = 1; p = _; ts = token.CloseBracket ∷ []; rest = last_place by_place k }
-number_ending (places.Nth k n) h e = absurd cc
-number_ending (places.NthDash k n) h e =
-    record { v = n.value; d = n.count; p = _; ts = token.CloseBracket ∷ []; rest = to_place by_place k n h.other }
-number_ending (places.BracketEnd k) h e = absurd cc
+number_ending (places.Bracket k r) h e =
+    record { v = 1; d = 1; p = _; ts = token.CloseBracket ∷ []; rest = first_place by_place k r }
+number_ending (places.BracketDash k r) h e =
+    record { v = 1; d = 1; p = _; ts = token.CloseBracket ∷ []; rest = last_place by_place k r }
+number_ending (places.Nth k n r) h e = absurd cc
+number_ending (places.NthDash k n r) h e =
+    record { v = n.value; d = n.count; p = _; ts = token.CloseBracket ∷ []; rest = to_place by_place k n r h.other }
+number_ending (places.BracketEnd k r) h e = absurd cc
+number_ending (places.PlacesEnd r) h e = absurd cc
+number_ending (places.OffsetSign before r) h e =
+    record { v = 1; d = 1; p = _; ts = token.Day ∷ []; rest = to_day by_place before r h }
+number_ending (places.OffsetNumber o) h e = absurd cc
 number_ending (places.Time t) h e = absurd cc
 number_ending (places.TimeDash t) h e = absurd cc
 number_ending (places.AfterDate y m) h e = absurd cc
@@ -685,11 +725,15 @@ time_ending (places.WeekAgain a b) h e =
 time_ending (places.Weekday k) h e =
     timed_on (places.Weekday k) _ (weekday_then by_place k timed_next timed_tokens h (times_after by_place stage.Weekdays refl))
 time_ending (places.WeekdayDash k) h e = absurd cc
-time_ending (places.Bracket k) h e = absurd cc
-time_ending (places.BracketDash k) h e = absurd cc
-time_ending (places.Nth k n) h e = absurd cc
-time_ending (places.NthDash k n) h e = absurd cc
-time_ending (places.BracketEnd k) h e = absurd cc
+time_ending (places.Bracket k r) h e = absurd cc
+time_ending (places.BracketDash k r) h e = absurd cc
+time_ending (places.Nth k n r) h e = absurd cc
+time_ending (places.NthDash k n r) h e = absurd cc
+time_ending (places.BracketEnd k r) h e = absurd cc
+time_ending (places.PlacesEnd r) h e =
+    timed_on (places.PlacesEnd r) _ (no_offset by_place r timed_next timed_tokens (times_after by_place stage.Weekdays refl))
+time_ending (places.OffsetSign before r) h e = absurd cc
+time_ending (places.OffsetNumber o) h e = absurd cc
 time_ending (places.Time t) h e = absurd cc
 time_ending (places.TimeDash t) h e = record { h = t.hour; m = t.minute; p = _; ts = []; rest = to_time by_place t h }
 time_ending (places.AfterDate y m) h e =

@@ -20,7 +20,7 @@ use Rattle.gtd_hours_grammar.specs.Grammar.{Demand, Follow, IsDates, IsMonthDays
 use Rattle.gtd_hours_grammar.specs.Grammar.{Listed, More, Text, begins_with_date, date_before, list_goes_on, number, precedes}
 use Rattle.gtd_hours_grammar.specs.Grammar.{time}
 use Rattle.gtd_hours_parts.specs.Pieces.{AreWrittenTimes, IsWrittenDate}
-use Rattle.gtd_hours_grammar.specs.Places.{Behind, BehindPlace, From, FromDate, InBrackets}
+use Rattle.gtd_hours_grammar.specs.Places.{Behind, BehindBrackets, BehindPlace, From, FromDate, InBrackets}
 
 -- ---- numbers and times that fit
 
@@ -79,20 +79,44 @@ pub dates_then : (d : Demand) (x : WrittenDate) (p later : List Piece) (ts rest 
 dates_then d x p later ts rest h k =
     record { later = later; rest = rest; dates = h; behind = behind d stage.MonthDays later rest k }
 
-pub in_brackets : (d : Demand) (k : ℕ) (p later : List Piece) (ts rest : List TokenKind)
-    → IsPlaces k p ts later (token.CloseBracket ∷ rest) → Follow d stage.Weekdays later rest → InBrackets d k p ts
-in_brackets d k p later ts rest h follow = record {
+pub in_brackets : (d : Demand) (k r : ℕ) (p later : List Piece) (ts rest : List TokenKind)
+    → IsPlaces k None p ts (piece.PlacesEnd None ∷ later) (token.CloseBracket ∷ rest) → Follow d stage.Weekdays later rest
+    → InBrackets d k r p ts
+in_brackets d k r p later ts rest h follow = record {
   later = later;
   rest = rest;
-  listed = listed (IsPlaces k) p later ts (token.CloseBracket ∷ rest) h;
+  offset = None;
+  is = record {};
+  reaches = record {};
+  listed = listed (IsPlaces k None) p (piece.PlacesEnd None ∷ later) ts (token.CloseBracket ∷ rest) h;
   behind = behind d stage.Weekdays later rest follow;
 }
 
-pub bracket_closed : (d : Demand) (k : ℕ) (p : List Piece) (ts : List TokenKind) → Follow d stage.Weekdays p ts
-    → BehindPlace d k p (token.CloseBracket ∷ ts)
-bracket_closed d k p ts h =
-    let none_more = More.none p (token.CloseBracket ∷ ts) refl refl in
-    record { later = p; rest = ts; more = none_more; behind = behind d stage.Weekdays p ts h }
+pub bracket_closed : (d : Demand) (k r : ℕ) (p : List Piece) (ts : List TokenKind) → Follow d stage.Weekdays p ts
+    → BehindPlace d k r (piece.PlacesEnd None ∷ p) (token.CloseBracket ∷ ts)
+bracket_closed d k r p ts h = record {
+  later = p;
+  rest = ts;
+  offset = None;
+  is = record {};
+  reaches = record {};
+  more = More.none (piece.PlacesEnd None ∷ p) (token.CloseBracket ∷ ts) refl refl;
+  behind = behind d stage.Weekdays p ts h;
+}
+
+-- behind brackets, no offset follows
+pub no_offset : (d : Demand) (r : ℕ) (p : List Piece) (ts : List TokenKind) → Follow d stage.Weekdays p ts
+    → BehindBrackets d r (piece.PlacesEnd None ∷ p) ts
+no_offset d r p ts h = record {
+  later = p;
+  rest = ts;
+  offset = None;
+  is = record {};
+  reaches = record {};
+  pieces = refl;
+  tokens = refl;
+  behind = behind d stage.Weekdays p ts h;
+}
 
 pub done : (d : Demand) (s : Stage) → precedes stage.Front s ≡ true → Follow d s [] []
 done d s e = Follow.ends s [] [] e refl refl

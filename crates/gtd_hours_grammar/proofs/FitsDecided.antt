@@ -7,7 +7,7 @@ use Rattle.gtd_hours.specs.Calendar.{IsDate, day_number, month_length}
 use Rattle.gtd_hours.specs.Ranges.{IsDatedRange, IsTimeRange, IsYearDate, end_of}
 use Rattle.gtd_hours_tokens.specs.declared.token.TokenKind.TheVariants as token
 use Rattle.gtd_hours_parts.specs.Dates.{EndsOn, IsDayOfYear, IsWrittenDay, last_year}
-use Rattle.gtd_hours_parts.specs.Numbers.{IsDayNumber, IsPlaceNumber, IsStepNumber, IsWeekNumber, IsYearNumber}
+use Rattle.gtd_hours_parts.specs.Numbers.{IsDayNumber, IsOffsetNumber, IsPlaceNumber, IsStepNumber, IsWeekNumber, IsYearNumber}
 use Rattle.gtd_hours_parts.specs.Times.{IsBegin, minute_of}
 use Rattle.gtd_hours_parts.specs.declared.clock.ClockTime.{ClockTime}
 use Rattle.gtd_hours_parts.specs.declared.digits.Digits.{Digits}
@@ -19,7 +19,7 @@ use Rattle.gtd_hours_grammar.specs.declared.place.Place.TheVariants as places
 use Rattle.gtd_hours_grammar.specs.declared.stage.Stage.TheVariants as stage
 use Rattle.gtd_hours_parts.specs.Pieces.{AreWrittenTimes, EndsRange, IsDay, IsLastDay, IsRange, first_day_of, last_day_of}
 use Rattle.gtd_hours_grammar.specs.Sound.{Fits, ListedFits, MonthFits, NumberFits, TimeFits, YearOrDay, YearOrListed}
-use Rattle.gtd_hours_grammar.specs.Sound.{is_last_year}
+use Rattle.gtd_hours_grammar.specs.Sound.{Reaches, is_last_year}
 
 -- ---- what is decided part by part
 
@@ -63,6 +63,13 @@ place n = three (cases_eq n.count 1) (at_most 1 n.value) (at_most n.value 5)
 
 step : (n : Digits) → Decided (IsStepNumber n)
 step n = four (at_most 1 n.count) (at_most n.count 4) (at_most 1 n.value) (at_most n.value 9999)
+
+offset : (n : Digits) → Decided (IsOffsetNumber n)
+offset n = four (at_most 1 n.count) (at_most n.count 2) (at_most 1 n.value) (at_most n.value 27)
+
+reaches : (r : ℕ) (before : Bool) (n : ℕ) → Decided (Reaches r before n)
+reaches r true n = below n r
+reaches r false n = at_most 1 r
 
 range : (Is : Digits → Type 0) → ((n : Digits) → Decided (Is n)) → (a b : Digits) → Decided (IsRange Is a b)
 range Is one a b = three (one a) (one b) (at_most a.value b.value)
@@ -150,9 +157,10 @@ number_fits (places.DateDashMonth first y m) n =
 number_fits places.WeekWord n = week n
 number_fits (places.WeekDash first) n = week n
 number_fits (places.WeekStep first last) n = step n
-number_fits (places.Bracket k) n = place n
-number_fits (places.BracketDash k) n = place n
-number_fits (places.NthDash k first) n = range IsPlaceNumber place first n
+number_fits (places.Bracket k r) n = place n
+number_fits (places.BracketDash k r) n = place n
+number_fits (places.NthDash k first r) n = range IsPlaceNumber place first n
+number_fits (places.OffsetSign before r) n = two (offset n) (reaches r before n.value)
 number_fits (places.AfterDate y m) n = year n
 number_fits (places.CommaDate y m) n = year_or_listed (n.count == 4) y m n
 number_fits (places.After s) n = year n

@@ -1,5 +1,5 @@
 -- Which moves are right that complete a part of a list.
-use Rattle.std.proofs.Common.{◌≡◌, ℕ, Bool, true, false, Option, Some, None, List, ◌∷◌, IfSome, if◌then◌else◌}
+use Rattle.std.proofs.Common.{◌≡◌, ◌≤◌, ℕ, Bool, true, false, Option, Some, None, List, ◌∷◌, IfSome, if◌then◌else◌}
 use Rattle.std.proofs.Common.{refl, ap, subst, sym, arith, rules}
 use Rattle.std.specs.Prelude.{nat_le, ◌==◌}
 use Rattle.std.proofs.lemmas.Bool.{leb-false, leb-true}
@@ -10,6 +10,7 @@ use Rattle.gtd_hours_parts.specs.declared.clock.ClockTime.{ClockTime}
 use Rattle.gtd_hours_parts.specs.declared.digits.Digits.{Digits}
 use Rattle.gtd_hours_parts.specs.Numbers.{IsPlaceNumber, IsWeekNumber, IsYearNumber}
 use Rattle.gtd_hours_parts.specs.declared.piece.LastDate.TheVariants as last_date
+use Rattle.gtd_hours_parts.specs.declared.piece.Offset.{Offset}
 use Rattle.gtd_hours_parts.specs.declared.piece.Piece.TheVariants as piece
 use Rattle.gtd_hours_parts.specs.declared.piece.WrittenDate.{WrittenDate}
 use Rattle.gtd_hours_grammar.specs.declared.stage.Stage.TheVariants as stage
@@ -19,12 +20,14 @@ use Rattle.gtd_hours_grammar.specs.Places.{Behind, BehindDate, From, FromDate, R
 use Rattle.gtd_hours_parts.specs.declared.piece.LastDate.{LastDate}
 use Rattle.gtd_hours.specs.declared.hours.Link.TheVariants as link
 use Rattle.gtd_hours_grammar.specs.facts.FollowDates.{end_month_is, end_year_is}
-use Rattle.gtd_hours_grammar.specs.Grammar.{begins_with_date, date_before, days_of_months, months_to, number, range_to}
+use Rattle.gtd_hours_grammar.specs.Grammar.{begins_with_date, date_before, days_of_months, months_to, number, range_to, sign}
 use Rattle.gtd_hours_parts.specs.Pieces.{AreBackWeeks, AreWrittenDates, EndsRange, IsDay, IsRange, IsWrittenDate}
 use Rattle.gtd_hours_parts.specs.Pieces.{end_month, end_year}
 use Rattle.gtd_hours_parts.specs.Pieces.{final_week, final_year, week_one}
 use Rattle.gtd_hours_grammar.specs.Sound.{Both, Fits, IsPlace, YearOrDay, YearOrListed, is_last_year}
-use Rattle.gtd_hours_grammar.specs.Moves.{clock, dates_end, take, week_pair, written, year_or_day, year_or_listed}
+use Rattle.gtd_hours_grammar.specs.Moves.{back_reach, clock, dates_end, front_reach, offset_of, take, week_pair, written}
+use Rattle.gtd_hours_grammar.specs.Moves.{year_or_day, year_or_listed}
+use Rattle.gtd_hours_grammar.specs.facts.Reaching.{back_narrow, back_suits, front_narrow, front_suits}
 use Rattle.gtd_hours_grammar.specs.Terms.{Move, Piece, Place}
 use Rattle.gtd_hours_grammar.specs.Runs.{IsGood, from}
 use Rattle.gtd_hours_grammar.proofs.GoodLemmas.{behind, completes, gives, month_days_follow, sign_good, takes_to, token_good}
@@ -140,13 +143,13 @@ weekday_good k next sound = record {
 }
 
 pub weekday_bracket_good : (k : ℕ) (next : Option TokenKind) → next ≡ Some token.OpenBracket → IsWeekday k
-    → IsGood (places.Weekday k) next (takes_to (places.Bracket k))
-weekday_bracket_good k next same sound = sign_good (places.Weekday k) next token.OpenBracket (takes_to (places.Bracket k)) same
-    (record {
+    → IsGood (places.Weekday k) next (takes_to (places.Bracket k 28))
+weekday_bracket_good k next same sound =
+    sign_good (places.Weekday k) next token.OpenBracket (takes_to (places.Bracket k 28)) same (record {
       leads = λ d p ts rest. record {
         later = rest.later;
         rest = rest.rest;
-        one = IsWeekdays.places k ts refl sound rest.listed;
+        one = IsWeekdays.places k rest.offset ts refl sound rest.is rest.listed;
         behind = rest.behind;
       };
       stands = sound;
@@ -169,58 +172,86 @@ weekday_dash_good a b next fits same holds fit sound =
       nearer = λ h. absurd cc;
     }
 
-pub bracket_dash_good : (k v c : ℕ) (next : Option TokenKind) (fits : Bool) → next ≡ Some (token.Number v c) → fits ≡ true
-    → (fits ≡ true → Fits (places.BracketDash k) next) → IsWeekday k
-    → IsGood (places.BracketDash k) next (completes (piece.PlaceBack k (written v c)) (places.BracketEnd k))
-bracket_dash_good k v c next fits same holds fit sound =
-    token_good (places.BracketDash k) next (token.Number v c) fits
-    (completes (piece.PlaceBack k (written v c)) (places.BracketEnd k)) same holds fit λ place. record {
+pub bracket_dash_good : (k r v c : ℕ) (next : Option TokenKind) (fits : Bool) → next ≡ Some (token.Number v c) → fits ≡ true
+    → (fits ≡ true → Fits (places.BracketDash k r) next) → IsWeekday k
+    → IsGood (places.BracketDash k r) next (completes (piece.PlaceBack k (written v c)) (places.BracketEnd k (back_reach r v)))
+bracket_dash_good k r v c next fits same holds fit sound =
+    token_good (places.BracketDash k r) next (token.Number v c) fits
+    (completes (piece.PlaceBack k (written v c)) (places.BracketEnd k (back_reach r v))) same holds fit λ place. record {
       leads = λ d p ts rest. record {
         later = rest.later;
         rest = rest.rest;
+        offset = rest.offset;
+        is = rest.is;
+        reaches = back_narrow r v rest.offset rest.reaches;
         behind = rest.behind;
-        listed = record { q = p; us = ts; one = IsPlaces.back (written v c) refl refl place; more = rest.more };
+        listed = record {
+          q = p;
+          us = ts;
+          one = IsPlaces.back (written v c) refl refl place (back_suits r v rest.offset rest.is rest.reaches);
+          more = rest.more;
+        };
       };
       stands = sound;
       nearer = λ h. absurd cc;
     }
 
-pub nth_good : (k : ℕ) (n : Digits) (next : Option TokenKind) → Both (IsWeekday k) (IsPlaceNumber n)
-    → IsGood (places.Nth k n) next (gives (piece.Places k n None) (places.BracketEnd k))
-nth_good k n next sound = record {
+pub nth_good : (k : ℕ) (n : Digits) (r : ℕ) (next : Option TokenKind) → Both (IsWeekday k) (IsPlaceNumber n)
+    → IsGood (places.Nth k n r) next (gives (piece.Places k n None) (places.BracketEnd k (front_reach r n.value)))
+nth_good k n r next sound = record {
   leads = λ d p ts rest. record {
     later = rest.later;
     rest = rest.rest;
+    offset = rest.offset;
+    is = rest.is;
+    reaches = front_narrow r n.value rest.offset rest.reaches;
     behind = rest.behind;
-    listed = record { q = p; us = from next ts; one = IsPlaces.one n refl refl sound.other; more = rest.more };
+    listed = record {
+      q = p;
+      us = from next ts;
+      one = IsPlaces.one n refl refl sound.other (front_suits r n.value rest.offset rest.is rest.reaches);
+      more = rest.more;
+    };
   };
   stands = sound.one;
   nearer = λ h. omega arith;
 }
 
-pub nth_dash_good : (k : ℕ) (a : Digits) (v c : ℕ) (next : Option TokenKind) (fits : Bool) → next ≡ Some (token.Number v c)
-    → fits ≡ true → (fits ≡ true → Fits (places.NthDash k a) next) → Both (IsWeekday k) (IsPlaceNumber a)
-    → IsGood (places.NthDash k a) next (completes (piece.Places k a (Some (written v c))) (places.BracketEnd k))
-nth_dash_good k a v c next fits same holds fit sound =
-    token_good (places.NthDash k a) next (token.Number v c) fits
-    (completes (piece.Places k a (Some (written v c))) (places.BracketEnd k)) same holds fit λ range. record {
+pub nth_dash_good : (k : ℕ) (a : Digits) (r v c : ℕ) (next : Option TokenKind) (fits : Bool) → next ≡ Some (token.Number v c)
+    → fits ≡ true → (fits ≡ true → Fits (places.NthDash k a r) next) → Both (IsWeekday k) (IsPlaceNumber a)
+    → IsGood (places.NthDash k a r) next
+    (completes (piece.Places k a (Some (written v c))) (places.BracketEnd k (front_reach r v)))
+nth_dash_good k a r v c next fits same holds fit sound =
+    token_good (places.NthDash k a r) next (token.Number v c) fits
+    (completes (piece.Places k a (Some (written v c))) (places.BracketEnd k (front_reach r v))) same holds fit λ range. record {
       leads = λ d p ts rest. record {
         later = rest.later;
         rest = rest.rest;
+        offset = rest.offset;
+        is = rest.is;
+        reaches = front_narrow r v rest.offset rest.reaches;
         behind = rest.behind;
-        listed = record { q = p; us = ts; one = IsPlaces.range a (written v c) refl refl range; more = rest.more };
+        listed = record {
+          q = p;
+          us = ts;
+          one = IsPlaces.range a (written v c) refl refl range (front_suits r v rest.offset rest.is rest.reaches);
+          more = rest.more;
+        };
       };
       stands = sound.one;
       nearer = λ h. absurd cc;
     }
 
-pub bracket_comma_good : (k : ℕ) (next : Option TokenKind) → next ≡ Some token.Comma → IsWeekday k
-    → IsGood (places.BracketEnd k) next (takes_to (places.Bracket k))
-bracket_comma_good k next same sound = sign_good (places.BracketEnd k) next token.Comma (takes_to (places.Bracket k)) same
-    (record {
+pub bracket_comma_good : (k r : ℕ) (next : Option TokenKind) → next ≡ Some token.Comma → IsWeekday k
+    → IsGood (places.BracketEnd k r) next (takes_to (places.Bracket k r))
+bracket_comma_good k r next same sound =
+    sign_good (places.BracketEnd k r) next token.Comma (takes_to (places.Bracket k r)) same (record {
       leads = λ d p ts rest. record {
         later = rest.later;
         rest = rest.rest;
+        offset = rest.offset;
+        is = rest.is;
+        reaches = rest.reaches;
         behind = rest.behind;
         more = More.comma p rest.listed.q (token.Comma ∷ ts) ts rest.listed.us refl rest.listed.one rest.listed.more;
       };
@@ -228,16 +259,81 @@ bracket_comma_good k next same sound = sign_good (places.BracketEnd k) next toke
       nearer = λ h. absurd cc;
     })
 
-pub bracket_close_good : (k : ℕ) (next : Option TokenKind) → next ≡ Some token.CloseBracket
-    → IsGood (places.BracketEnd k) next (takes_to (places.After stage.Weekdays))
-bracket_close_good k next same =
-    sign_good (places.BracketEnd k) next token.CloseBracket (takes_to (places.After stage.Weekdays)) same (record {
+pub bracket_close_good : (k r : ℕ) (next : Option TokenKind) → next ≡ Some token.CloseBracket
+    → IsGood (places.BracketEnd k r) next (takes_to (places.PlacesEnd r))
+bracket_close_good k r next same =
+    sign_good (places.BracketEnd k r) next token.CloseBracket (takes_to (places.PlacesEnd r)) same (record {
       leads = λ d p ts rest. record {
-        later = p;
-        rest = ts;
-        behind = rest;
-        more = More.none p (token.CloseBracket ∷ ts) refl refl;
+        later = rest.later;
+        rest = rest.rest;
+        offset = rest.offset;
+        is = rest.is;
+        reaches = rest.reaches;
+        behind = rest.behind;
+        more = More.none p (token.CloseBracket ∷ ts) rest.pieces
+            (ap (λ (l : List TokenKind). token.CloseBracket ∷ l) rest.tokens);
       };
+      stands = record {};
+      nearer = λ h. absurd cc;
+    })
+
+-- ---- offsets behind brackets
+
+pub places_end_good : (r : ℕ) (next : Option TokenKind)
+    → IsGood (places.PlacesEnd r) next (gives (piece.PlacesEnd None) (places.After stage.Weekdays))
+places_end_good r next = record {
+  leads = λ d p ts rest. record {
+    later = p;
+    rest = from next ts;
+    offset = None;
+    is = record {};
+    reaches = record {};
+    pieces = refl;
+    tokens = refl;
+    behind = rest;
+  };
+  stands = refl;
+  nearer = λ h. omega arith;
+}
+
+pub plus_good : (r : ℕ) (next : Option TokenKind) → next ≡ Some token.Plus → 1 ≤ r
+    → IsGood (places.PlacesEnd r) next (takes_to (places.OffsetSign false r))
+plus_good r next same le =
+    sign_good (places.PlacesEnd r) next token.Plus (takes_to (places.OffsetSign false r)) same
+    (record { leads = λ d p ts rest. rest; stands = le; nearer = λ h. absurd cc })
+
+pub dash_good : (r : ℕ) (next : Option TokenKind) → next ≡ Some token.Dash → 2 ≤ r
+    → IsGood (places.PlacesEnd r) next (takes_to (places.OffsetSign true r))
+dash_good r next same le =
+    sign_good (places.PlacesEnd r) next token.Dash (takes_to (places.OffsetSign true r)) same
+    (record { leads = λ d p ts rest. rest; stands = le; nearer = λ h. absurd cc })
+
+pub offset_sign_good : (before : Bool) (r v c : ℕ) (next : Option TokenKind) (fits : Bool) → next ≡ Some (token.Number v c)
+    → fits ≡ true → (fits ≡ true → Fits (places.OffsetSign before r) next)
+    → IsGood (places.OffsetSign before r) next (takes_to (places.OffsetNumber (offset_of before v c)))
+offset_sign_good before r v c next fits same holds fit =
+    token_good (places.OffsetSign before r) next (token.Number v c) fits
+    (takes_to (places.OffsetNumber (offset_of before v c))) same holds fit λ days. record {
+      leads = λ d p ts rest. record {
+        later = rest.later;
+        rest = rest.rest;
+        offset = Some (offset_of before v c);
+        is = days.0;
+        reaches = days.1;
+        pieces = rest.pieces;
+        tokens = ap (λ (l : List TokenKind). sign before ∷ token.Number v c ∷ l) rest.tokens;
+        behind = rest.behind;
+      };
+      stands = days.0;
+      nearer = λ h. absurd cc;
+    }
+
+pub offset_number_good : (o : Offset) (next : Option TokenKind) → next ≡ Some token.Day
+    → IsGood (places.OffsetNumber o) next (completes (piece.PlacesEnd (Some o)) (places.After stage.Weekdays))
+offset_number_good o next same =
+    sign_good (places.OffsetNumber o) next token.Day (completes (piece.PlacesEnd (Some o)) (places.After stage.Weekdays)) same
+    (record {
+      leads = λ d p ts rest. record { later = p; rest = ts; pieces = refl; tokens = refl; behind = rest };
       stands = refl;
       nearer = λ h. absurd cc;
     })

@@ -1,7 +1,7 @@
 -- Each move of the table is right.
 use Rattle.std.proofs.Common.{◌≡◌, ℕ, Bool, true, false, Option, Some, None, List, ◌∷◌, refl, subst, sym}
-use Rattle.std.specs.Prelude.{IfSome, ◌&&◌, ◌==◌, if◌then◌else◌}
-use Rattle.std.proofs.lemmas.Bool.{and_parts, eqb-true}
+use Rattle.std.specs.Prelude.{IfSome, ◌&&◌, ◌==◌, if◌then◌else◌, nat_le}
+use Rattle.std.proofs.lemmas.Bool.{and_parts, eqb-true, leb-true}
 use Rattle.gtd_hours.specs.declared.hours.Link.TheVariants as link
 use Rattle.gtd_hours_tokens.specs.declared.token.TokenKind.TheVariants as token
 use Rattle.gtd_hours_parts.specs.Numbers.{IsYearNumber}
@@ -25,7 +25,8 @@ use Rattle.gtd_hours_grammar.proofs.GoodItems.{weekday_dash_good, weekday_good, 
 use Rattle.gtd_hours_grammar.proofs.GoodItems.{year_month_good, year_range_good, year_step_good, listed_plus_good}
 use Rattle.gtd_hours_grammar.proofs.GoodItems.{slash_step_good, week_again_good, week_back_good, week_pair_good}
 use Rattle.gtd_hours_grammar.proofs.GoodItems.{after_date_good, comma_date_good, listed_dash_good, listed_day_good}
-use Rattle.gtd_hours_grammar.proofs.GoodItems.{month_date_good}
+use Rattle.gtd_hours_grammar.proofs.GoodItems.{month_date_good, dash_good, offset_number_good, offset_sign_good}
+use Rattle.gtd_hours_grammar.proofs.GoodItems.{places_end_good, plus_good}
 use Rattle.gtd_hours_grammar.proofs.GoodItems.{year_month_date_good}
 use Rattle.gtd_hours_grammar.proofs.GoodItems.{comma_number_good, listed_slash_good, year_plus_good}
 use Rattle.gtd_hours_grammar.proofs.GoodItems.{listed_month_to_year_good, month_to_year_good, months_behind_good}
@@ -261,20 +262,31 @@ move_right (places.Weekday k) (Some token.OpenBracket) fits h f = weekday_bracke
 move_right (places.Weekday k) next fits h f = weekday_good k next h
 move_right (places.WeekdayDash k) (Some (token.Weekday l)) true h f =
     weekday_dash_good k l (Some (token.Weekday l)) true refl refl f h
-move_right (places.Bracket k) (Some (token.Number v d)) true h f =
-    on (places.Bracket k) (places.Nth k (written v d)) (token.Number v d) (λ e p ts rest. rest)
+move_right (places.Bracket k r) (Some (token.Number v d)) true h f =
+    on (places.Bracket k r) (places.Nth k (written v d) r) (token.Number v d) (λ e p ts rest. rest)
     (record { one = h; other = f refl })
-move_right (places.Bracket k) (Some token.Dash) fits h f =
-    on (places.Bracket k) (places.BracketDash k) token.Dash (λ d p ts rest. rest) h
-move_right (places.BracketDash k) (Some (token.Number v d)) true h f =
-    bracket_dash_good k v d (Some (token.Number v d)) true refl refl f h
-move_right (places.Nth k n) (Some token.Dash) fits h f =
-    on (places.Nth k n) (places.NthDash k n) token.Dash (λ d p ts rest. rest) h
-move_right (places.Nth k n) next fits h f = nth_good k n next h
-move_right (places.NthDash k n) (Some (token.Number v d)) true h f =
-    nth_dash_good k n v d (Some (token.Number v d)) true refl refl f h
-move_right (places.BracketEnd k) (Some token.Comma) fits h f = bracket_comma_good k (Some token.Comma) refl h
-move_right (places.BracketEnd k) (Some token.CloseBracket) fits h f = bracket_close_good k (Some token.CloseBracket) refl
+move_right (places.Bracket k r) (Some token.Dash) fits h f =
+    on (places.Bracket k r) (places.BracketDash k r) token.Dash (λ d p ts rest. rest) h
+move_right (places.BracketDash k r) (Some (token.Number v d)) true h f =
+    bracket_dash_good k r v d (Some (token.Number v d)) true refl refl f h
+move_right (places.Nth k n r) (Some token.Dash) fits h f =
+    on (places.Nth k n r) (places.NthDash k n r) token.Dash (λ d p ts rest. rest) h
+move_right (places.Nth k n r) next fits h f = nth_good k n r next h
+move_right (places.NthDash k n r) (Some (token.Number v d)) true h f =
+    nth_dash_good k n r v d (Some (token.Number v d)) true refl refl f h
+move_right (places.BracketEnd k r) (Some token.Comma) fits h f = bracket_comma_good k r (Some token.Comma) refl h
+move_right (places.BracketEnd k r) (Some token.CloseBracket) fits h f =
+    bracket_close_good k r (Some token.CloseBracket) refl
+move_right (places.PlacesEnd r) (Some token.Plus) fits h f =
+    if_right (nat_le 1 r) (places.PlacesEnd r) (Some token.Plus) (take (places.OffsetSign false r))
+    (λ e. plus_good r (Some token.Plus) refl (leb-true 1 r e))
+move_right (places.PlacesEnd r) (Some token.Dash) fits h f =
+    if_right (nat_le 2 r) (places.PlacesEnd r) (Some token.Dash) (take (places.OffsetSign true r))
+    (λ e. dash_good r (Some token.Dash) refl (leb-true 2 r e))
+move_right (places.PlacesEnd r) next fits h f = places_end_good r next
+move_right (places.OffsetSign before r) (Some (token.Number v d)) true h f =
+    offset_sign_good before r v d (Some (token.Number v d)) true refl refl f
+move_right (places.OffsetNumber o) (Some token.Day) fits h f = offset_number_good o (Some token.Day) refl
 move_right (places.Time t) (Some token.Dash) fits h f =
     on (places.Time t) (places.TimeDash t) token.Dash (λ d p ts rest. rest) h
 move_right (places.TimeDash t) (Some (token.Time a b)) true h f =

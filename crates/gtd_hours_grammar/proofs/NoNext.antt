@@ -10,13 +10,13 @@ use Rattle.gtd_hours_grammar.specs.declared.place.Place.TheVariants as places
 use Rattle.gtd_hours_grammar.specs.Grammar.{Demand, precedes}
 use Rattle.gtd_hours_parts.specs.Pieces.{final_week, week_one}
 use Rattle.gtd_hours_grammar.specs.Sound.{takes_number, takes_time}
-use Rattle.gtd_hours_grammar.specs.Moves.{next_move, give, take, complete, written, clock}
+use Rattle.gtd_hours_grammar.specs.Moves.{next_move, give, take, complete, front_reach, written, clock}
 use Rattle.gtd_hours_grammar.specs.Runs.{Runs, is_judged, is_after, left}
 use Rattle.gtd_hours_grammar.specs.Runs.Runs.{ends, cut, any_last, step}
 use Rattle.gtd_hours_grammar.specs.facts.RunSteps.{held, no_token, not_fit}
 
 abbrev is_nth : Place → Bool
-is_nth (places.Nth k n) = true
+is_nth (places.Nth k n r) = true
 is_nth at = false
 
 -- what comes behind a piece that is given
@@ -66,13 +66,14 @@ given_number demand at s x p v d ts day late gives go =
     after_number demand s behind.q v d ts late behind.runs
 
 -- or a token behind a place in brackets
-given_place : (demand : Demand) (k : ℕ) (n : Digits) (p : List Piece) (t : TokenKind) (ts : List TokenKind)
-    → next_move (places.Nth k n) (Some t) true ≡ give (piece.Places k n None) (places.BracketEnd k)
-    → next_move (places.BracketEnd k) (Some t) true ≡ None → Runs demand (places.Nth k n) p (t ∷ ts) → ⊥
-given_place demand k n p t ts gives none go =
-    let behind = behind_piece demand (places.Nth k n) (places.BracketEnd k) (piece.Places k n None) p t ts refl (λ fits. gives)
-    go in
-    no_token demand (places.BracketEnd k) behind.q t ts refl (λ fits. none) behind.runs
+given_place : (demand : Demand) (k : ℕ) (n : Digits) (r : ℕ) (p : List Piece) (t : TokenKind) (ts : List TokenKind)
+    → next_move (places.Nth k n r) (Some t) true ≡ give (piece.Places k n None) (places.BracketEnd k (front_reach r n.value))
+    → next_move (places.BracketEnd k (front_reach r n.value)) (Some t) true ≡ None
+    → Runs demand (places.Nth k n r) p (t ∷ ts) → ⊥
+given_place demand k n r p t ts gives none go =
+    let behind = behind_piece demand (places.Nth k n r) (places.BracketEnd k (front_reach r n.value)) (piece.Places k n None) p
+    t ts refl (λ fits. gives) go in
+    no_token demand (places.BracketEnd k (front_reach r n.value)) behind.q t ts refl (λ fits. none) behind.runs
 
 pub no_number : (demand : Demand) (at : Place) (p : List Piece) (v d : ℕ) (ts : List TokenKind) → takes_number at ≡ false
     → Runs demand at p (token.Number v d ∷ ts) → ⊥
@@ -112,9 +113,13 @@ no_number demand (places.Weekday k) p v d ts e =
     given_number demand (places.Weekday k) stage.Weekdays (piece.Weekdays k None) p v d ts refl refl (λ fits. refl)
 no_number demand (places.WeekdayDash k) p v d ts e =
     no_token demand (places.WeekdayDash k) p (token.Number v d) ts refl (λ fits. refl)
-no_number demand (places.Nth k n) p v d ts e = given_place demand k n p (token.Number v d) ts refl refl
-no_number demand (places.BracketEnd k) p v d ts e =
-    no_token demand (places.BracketEnd k) p (token.Number v d) ts refl (λ fits. refl)
+no_number demand (places.Nth k n r) p v d ts e = given_place demand k n r p (token.Number v d) ts refl refl
+no_number demand (places.BracketEnd k r) p v d ts e =
+    no_token demand (places.BracketEnd k r) p (token.Number v d) ts refl (λ fits. refl)
+no_number demand (places.PlacesEnd r) p v d ts e =
+    given_number demand (places.PlacesEnd r) stage.Weekdays (piece.PlacesEnd None) p v d ts refl refl (λ fits. refl)
+no_number demand (places.OffsetNumber o) p v d ts e =
+    no_token demand (places.OffsetNumber o) p (token.Number v d) ts refl (λ fits. refl)
 no_number demand (places.Time t) p v d ts e = no_token demand (places.Time t) p (token.Number v d) ts refl (λ fits. refl)
 no_number demand (places.TimeDash t) p v d ts e =
     no_token demand (places.TimeDash t) p (token.Number v d) ts refl (λ fits. refl)
@@ -143,10 +148,12 @@ time_refused places.WeekWord h m fits e f g = refl
 time_refused (places.WeekDash n) h m fits e f g = refl
 time_refused (places.WeekStep a b) h m fits e f g = refl
 time_refused (places.WeekdayDash k) h m fits e f g = refl
-time_refused (places.Bracket k) h m fits e f g = refl
-time_refused (places.BracketDash k) h m fits e f g = refl
-time_refused (places.NthDash k n) h m fits e f g = refl
-time_refused (places.BracketEnd k) h m fits e f g = refl
+time_refused (places.Bracket k r) h m fits e f g = refl
+time_refused (places.BracketDash k r) h m fits e f g = refl
+time_refused (places.NthDash k n r) h m fits e f g = refl
+time_refused (places.BracketEnd k r) h m fits e f g = refl
+time_refused (places.OffsetSign before r) h m fits e f g = refl
+time_refused (places.OffsetNumber o) h m fits e f g = refl
 time_refused (places.Time t) h m fits e f g = refl
 time_refused at h m fits e f g = absurd cc
 
@@ -171,7 +178,7 @@ time_stops demand at p h m ts none (step at' p' q ts' move fits is n e go) =
 
 pub no_time : (demand : Demand) (at : Place) (p : List Piece) (h m : ℕ) (ts : List TokenKind) → takes_time at ≡ false
     → Runs demand at p (token.Time h m ∷ ts) → ⊥
-no_time demand (places.Nth k n) p h m ts e = given_place demand k n p (token.Time h m) ts refl refl
+no_time demand (places.Nth k n r) p h m ts e = given_place demand k n r p (token.Time h m) ts refl refl
 no_time demand (places.AfterDate y k) p h m ts e = absurd cc
 no_time demand (places.After s) p h m ts e = after_time demand s p h m ts e
 no_time demand at p h m ts e = time_stops demand at p h m ts (λ fits. time_refused at h m fits e refl refl)

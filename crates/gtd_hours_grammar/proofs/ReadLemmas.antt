@@ -11,7 +11,7 @@ use Rattle.gtd_hours_grammar.specs.Terms.{Token, TokenKind, Piece, Place, Move}
 use Rattle.gtd_hours_grammar.specs.declared.place.Place.TheVariants as places
 use Rattle.gtd_hours_grammar.specs.declared.reading.Reading.{Reading}
 use Rattle.gtd_hours_grammar.specs.Grammar.{Demand}
-use Rattle.gtd_hours_grammar.specs.Faults.{kinds, last_from, last_kind}
+use Rattle.gtd_hours_grammar.specs.Faults.{kind_before, kinds, last_from, last_kind}
 use Rattle.gtd_hours_grammar.specs.Places.{Rest}
 use Rattle.gtd_hours_grammar.specs.Sound.{Fits}
 use Rattle.gtd_hours_grammar.specs.Moves.{next_move, rank}
@@ -106,7 +106,8 @@ kinds_one [] t ts = refl
 kinds_one (u ∷ us) t ts = ap (λ (l : List TokenKind). u.kind ∷ l) (kinds_one us t ts)
 
 pub front_read : (text : List ℕ) (tokens : List Token) → AreTokens text tokens
-    → IsTokenReading text (record { place = 0; behind = places.Front; at = places.Front; last = None; from = 0 }) []
+    → IsTokenReading text
+    (record { place = 0; behind = places.Front; at = places.Front; before_last = None; last = None; from = 0 }) []
 front_read text tokens are = record {
   one = [];
   two = [];
@@ -123,6 +124,7 @@ front_read text tokens are = record {
     leads = λ d p ts r. r;
   };
   last = refl;
+  before_last = refl;
   from = refl;
   gives = at_once places.Front (first (kinds tokens));
 }
@@ -136,7 +138,14 @@ known text r given is next h = next_kind is.read.later next (same_next text r.pl
 pub shifts : (text : List ℕ) (r : Reading) (given : List Piece) (next : Option Token) (move : Move) → IsTokenReading text r given
     → IsNext text r.place (Ok next) → IsMove r.at (kind_of next) (Some move) → IsGood r.at (kind_of next) move
     → move.takes ≡ false
-    → IsTokenReading text (record { place = r.place; behind = r.behind; at = move.to; last = r.last; from = r.from })
+    → IsTokenReading text (record {
+      place = r.place;
+      behind = r.behind;
+      at = move.to;
+      before_last = r.before_last;
+      last = r.last;
+      from = r.from;
+    })
     (given ++ with_piece move.piece [])
 shifts text r given next move is h goes good keeps =
     let same = known text r given is next h in
@@ -151,6 +160,7 @@ shifts text r given next move is h goes good keeps =
       stands = good.stands;
       read = is.read;
       last = is.last;
+      before_last = is.before_last;
       from = is.from;
       gives = subst (λ (n : Option TokenKind). GivesTo r.behind move.to n (is.two ++ with_piece move.piece [])) (sym same) more;
     }
@@ -168,6 +178,12 @@ last_more : (before : List Token) (t : Token) → last_kind (kinds (before ++ t 
 last_more [] t = refl
 last_more (u ∷ []) t = refl
 last_more (u ∷ w ∷ us) t = last_more (w ∷ us) t
+
+before_more : (before : List Token) (t : Token) → kind_before (kinds (before ++ t ∷ [])) ≡ last_kind (kinds before)
+before_more [] t = refl
+before_more (u ∷ []) t = refl
+before_more (u ∷ w ∷ []) t = refl
+before_more (u ∷ w ∷ x ∷ us) t = before_more (w ∷ x ∷ us) t
 
 from_more : (before : List Token) (t : Token) → last_from (before ++ t ∷ []) ≡ t.from
 from_more [] t = refl
@@ -211,7 +227,14 @@ read_more text r given t move is h goes good takes =
 pub takes_token : (text : List ℕ) (r : Reading) (given : List Piece) (t : Token) (move : Move) → IsTokenReading text r given
     → IsNext text r.place (Ok (Some t)) → t.to ≤ length text → IsMove r.at (Some t.kind) (Some move)
     → IsGood r.at (Some t.kind) move → move.takes ≡ true
-    → IsTokenReading text (record { place = t.to; behind = move.to; at = move.to; last = Some t.kind; from = t.from })
+    → IsTokenReading text (record {
+      place = t.to;
+      behind = move.to;
+      at = move.to;
+      before_last = r.last;
+      last = Some t.kind;
+      from = t.from;
+    })
     (given ++ with_piece move.piece [])
 takes_token text r given t move is h inside goes good takes =
     let read = read_more text r given t move is h goes good takes in
@@ -223,6 +246,7 @@ takes_token text r given t move is h inside goes good takes =
       stands = good.stands;
       read = read;
       last = last_more is.read.before t;
+      before_last = before_more is.read.before t ∙ is.last;
       from = from_more is.read.before t;
       gives = at_once move.to (first (kinds read.later));
     }
@@ -243,7 +267,8 @@ never_takes (places.WeekRange a b) fits move e = cc
 never_takes (places.WeekBack a b) fits move e = cc
 never_takes (places.WeekAgain a b) fits move e = cc
 never_takes (places.Weekday k) fits move e = cc
-never_takes (places.Nth k n) fits move e = cc
+never_takes (places.Nth k n r) fits move e = cc
+never_takes (places.PlacesEnd r) fits move e = cc
 never_takes (places.Comma s) fits move e = cc
 never_takes at fits move e = absurd cc
 

@@ -1,6 +1,6 @@
 -- Which texts are opening hours, and what the first fault of another text is.
 use Rattle.std.specs.Prelude.{List, ◌≡◌, ◌==◌, ℕ, Bool, true, false, [], ◌∷◌, ◌++◌, length, Option, Some, None}
-use Rattle.std.specs.Prelude.{if◌then◌else◌}
+use Rattle.std.specs.Prelude.{◌&&◌, ◌||◌, if◌then◌else◌, nat_le}
 use Rattle.gtd_hours_tokens.specs.Lexing.{AreTokens, IsTokenFault}
 use Rattle.gtd_hours_tokens.specs.declared.token.TokenKind.TheVariants as token
 use Rattle.gtd_hours_grammar.specs.declared.fault.FaultKind.{FaultKind}
@@ -51,16 +51,46 @@ last_kind [] = None
 last_kind (t ∷ []) = Some t
 last_kind (t ∷ u ∷ ts) = last_kind (u ∷ ts)
 
--- a year, or the sign that years go on
-abbrev pub ends_years : Option TokenKind → Bool
-ends_years (Some (token.Number value digits)) = digits == 4
-ends_years (Some token.Plus) = true
-ends_years t = false
+-- the kind of the token before the last one
+abbrev pub kind_before : List TokenKind → Option TokenKind
+kind_before [] = None
+kind_before (t ∷ []) = None
+kind_before (t ∷ u ∷ []) = Some t
+kind_before (t ∷ u ∷ v ∷ ts) = kind_before (u ∷ v ∷ ts)
 
--- what is wrong with a `+`, behind years or elsewhere, where it is an open end or an offset that is not read
-abbrev pub plus_kind : Bool → FaultKind
-plus_kind true = fault.Unexpected
-plus_kind false = fault.Unsupported
+-- of two tokens, the second is the sign of an offset: it stands directly behind brackets
+abbrev pub is_offset : Option TokenKind → Option TokenKind → Bool
+is_offset (Some token.CloseBracket) (Some token.Plus) = true
+is_offset (Some token.CloseBracket) (Some token.Dash) = true
+is_offset before last = false
+
+-- What is wrong with a `+` behind a token: behind brackets, no offset suits the places; behind years and weekdays it is
+-- unexpected; elsewhere it is an open end or an offset that is not read.
+abbrev pub plus_kind : Option TokenKind → FaultKind
+plus_kind (Some token.CloseBracket) = fault.Range
+plus_kind (Some (token.Number value digits)) = if digits == 4 then fault.Unexpected else fault.Unsupported
+plus_kind (Some (token.Weekday k)) = fault.Unexpected
+plus_kind (Some token.Plus) = fault.Unexpected
+plus_kind t = fault.Unsupported
+
+-- and with a `-`
+abbrev pub dash_kind : Option TokenKind → FaultKind
+dash_kind (Some token.CloseBracket) = fault.Range
+dash_kind t = fault.Unexpected
+
+-- a weekday behind the sign of an offset is an offset to a weekday
+abbrev pub weekday_kind : Bool → FaultKind
+weekday_kind offset = if offset then fault.Unsupported else fault.Unexpected
+
+-- `day` behind a range of dates is an offset of a date
+abbrev pub day_kind : Option TokenKind → Option TokenKind → FaultKind
+day_kind (Some token.Dash) (Some (token.Number value digits)) = fault.Unsupported
+day_kind before last = fault.Unexpected
+
+-- a number that is an offset's by its digits and its value
+abbrev pub is_few : TokenKind → Bool
+is_few (token.Number value digits) = nat_le 1 digits && nat_le digits 2 && nat_le 1 value && nat_le value 27
+is_few t = false
 
 -- the place of the last token
 abbrev pub last_from : List Token → ℕ
@@ -68,17 +98,26 @@ last_from [] = 0
 last_from (t ∷ []) = t.from
 last_from (t ∷ u ∷ ts) = last_from (u ∷ ts)
 
--- where a fault is told: at the token; if that is the slash behind weeks that go back, at the second week, which it follows; and
--- if it is a step of too many years, at the slash before it
+-- a token out of range is told at the one before it: the slash behind weeks that go back, at the second week; and the number
+-- of an offset that leads back too far, at its sign
+abbrev pub is_told_before : Bool → TokenKind → Bool
+is_told_before offset t = is_slash t || (offset && is_few t)
+
+-- where a fault is told: at the token, or the one before it; there too if it is a step of too many years
 abbrev pub told_at : List Token → Token → FaultKind → ℕ
 told_at before t fault.Years = last_from before
-told_at before t fault.Range = if is_slash t.kind then last_from before else t.from
+told_at before t fault.Range =
+    if is_told_before (is_offset (kind_before (kinds before)) (last_kind (kinds before))) t.kind then last_from before
+    else t.from
 told_at before t kind = t.from
 
 -- what is wrong with the first token that does not go on
 abbrev pub IsMisfitKind : List TokenKind → TokenKind → FaultKind → Type 0
 IsMisfitKind before token.Unsupported kind = kind ≡ fault.Unsupported
-IsMisfitKind before token.Plus kind = kind ≡ plus_kind (ends_years (last_kind before))
+IsMisfitKind before token.Plus kind = kind ≡ plus_kind (last_kind before)
+IsMisfitKind before token.Dash kind = kind ≡ dash_kind (last_kind before)
+IsMisfitKind before token.Day kind = kind ≡ day_kind (kind_before before) (last_kind before)
+IsMisfitKind before (token.Weekday k) kind = kind ≡ weekday_kind (is_offset (kind_before before) (last_kind before))
 IsMisfitKind before (token.Number v d) fault.Years = NeedsYears before (token.Number v d)
 IsMisfitKind before (token.Number v d) fault.Range =
     FitsByPlace before (token.Number v d) × (NeedsYears before (token.Number v d) → ⊥)

@@ -1,11 +1,12 @@
 -- Which pieces a list of tokens is: the grammar of opening hours.
 use Rattle.std.specs.Prelude.{List, ◌≡◌, ℕ, Bool, true, false, ◌==◌, nat_lt, [], ◌∷◌, ◌++◌, Option, Some, None, IfSome, is_some}
-use Rattle.gtd_hours.specs.Ranges.{IsMonth, IsWeekday}
+use Rattle.gtd_hours.specs.Ranges.{IsMonth, IsMovable, IsWeekday}
 use Rattle.gtd_hours.specs.declared.hours.Link.TheVariants as link
 use Rattle.gtd_hours_tokens.specs.declared.token.TokenKind.TheVariants as token
 use Rattle.gtd_hours_parts.specs.declared.digits.Digits.{Digits}
 use Rattle.gtd_hours_parts.specs.declared.clock.ClockTime.{ClockTime}
-use Rattle.gtd_hours_parts.specs.Numbers.{IsPlaceNumber, IsStepNumber, IsWeekNumber, IsYearNumber}
+use Rattle.gtd_hours_parts.specs.Numbers.{IsOffsetNumber, IsPlaceNumber, IsStepNumber, IsWeekNumber, IsYearNumber}
+use Rattle.gtd_hours_parts.specs.declared.piece.Offset.{Offset}
 use Rattle.gtd_hours_parts.specs.declared.piece.WrittenDate.{WrittenDate}
 use Rattle.gtd_hours_parts.specs.declared.piece.LastDate.{LastDate}
 use Rattle.gtd_hours_parts.specs.declared.piece.LastDate.TheVariants as last_date
@@ -168,23 +169,44 @@ pub data IsMonthDays (demand : Demand) (p : List Piece) (ts : List TokenKind) (l
   any_month : (a b : Digits) → (m l : ℕ) → demand ≡ by_place → IsRange IsYearNumber a b → IsMonth m
       → ts ≡ months_to a m b (token.Month l ∷ []) → rest ≡ [] → p ≡ later → IsMonthDays demand p ts later rest
 
--- `1`, `1-2`, `-1`, in brackets after the weekday
-pub data IsPlaces (weekday : ℕ) (p : List Piece) (ts : List TokenKind) (later : List Piece) (rest : List TokenKind) : Type 0 where
+-- an offset, if there is one, has 1 to 27 days
+abbrev pub IsOffset : Option Offset → Type 0
+IsOffset offset = IfSome offset (λ (o : Offset). IsOffsetNumber o.days)
+
+-- it suits a place from the beginning of the month, or back from its end
+abbrev pub Suits : Option Offset → Bool → ℕ → Type 0
+Suits None is_back place = Unit {0}
+Suits (Some o) is_back place = IsMovable place is_back o.days.value o.is_before
+
+abbrev pub sign : Bool → TokenKind
+sign true = token.Dash
+sign false = token.Plus
+
+-- the tokens of an offset, if there is one, and what follows them
+abbrev pub offset_before : Option Offset → List TokenKind → List TokenKind
+offset_before None rest = rest
+offset_before (Some o) rest = sign o.is_before ∷ number o.days ∷ token.Day ∷ rest
+
+-- `1`, `1-2`, `-1`, in brackets after the weekday, which the offset behind the brackets suits
+pub data IsPlaces (weekday : ℕ) (offset : Option Offset) (p : List Piece) (ts : List TokenKind) (later : List Piece)
+    (rest : List TokenKind) : Type 0 where
   one : (n : Digits) → ts ≡ number n ∷ rest → p ≡ piece.Places weekday n None ∷ later → IsPlaceNumber n
-      → IsPlaces weekday p ts later rest
+      → Suits offset false n.value → IsPlaces weekday offset p ts later rest
   range : (first last : Digits) → ts ≡ number first ∷ token.Dash ∷ number last ∷ rest
       → p ≡ piece.Places weekday first (Some last) ∷ later → IsRange IsPlaceNumber first last
-      → IsPlaces weekday p ts later rest
+      → Suits offset false last.value → IsPlaces weekday offset p ts later rest
   back : (n : Digits) → ts ≡ token.Dash ∷ number n ∷ rest → p ≡ piece.PlaceBack weekday n ∷ later → IsPlaceNumber n
-      → IsPlaces weekday p ts later rest
+      → Suits offset true n.value → IsPlaces weekday offset p ts later rest
 
--- `Mo`, `Mo-Fr`, `We[1]`, `We[1,3-4,-1]`
+-- `Mo`, `Mo-Fr`, `We[1]`, `We[1,3-4,-1]`, `We[1] -2 days`
 pub data IsWeekdays (p : List Piece) (ts : List TokenKind) (later : List Piece) (rest : List TokenKind) : Type 0 where
   one : (k : ℕ) → ts ≡ token.Weekday k ∷ rest → p ≡ piece.Weekdays k None ∷ later → IsWeekday k → IsWeekdays p ts later rest
   range : (first last : ℕ) → ts ≡ token.Weekday first ∷ token.Dash ∷ token.Weekday last ∷ rest
       → p ≡ piece.Weekdays first (Some last) ∷ later → IsWeekday first → IsWeekday last → IsWeekdays p ts later rest
-  places : (k : ℕ) → (us : List TokenKind) → ts ≡ token.Weekday k ∷ token.OpenBracket ∷ us → IsWeekday k
-      → Listed (IsPlaces k) p us later (token.CloseBracket ∷ rest) → IsWeekdays p ts later rest
+  places : (k : ℕ) → (offset : Option Offset) → (us : List TokenKind) → ts ≡ token.Weekday k ∷ token.OpenBracket ∷ us
+      → IsWeekday k → IsOffset offset
+      → Listed (IsPlaces k offset) p us (piece.PlacesEnd offset ∷ later) (token.CloseBracket ∷ offset_before offset rest)
+      → IsWeekdays p ts later rest
 
 -- `08:00-17:00`
 pub record IsTimes (p : List Piece) (ts : List TokenKind) (later : List Piece) (rest : List TokenKind) : Type 0 where

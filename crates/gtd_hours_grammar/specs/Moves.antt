@@ -1,10 +1,11 @@
 -- Which move a token, or the end of the text, makes at a place: the table that the code goes by. Whether a number, a time, a
 -- month or a weekday fits next is given.
-use Rattle.std.specs.Prelude.{ℕ, nat_le, Bool, true, false, ◌&&◌, ◌==◌, if◌then◌else◌, Option, Some, None}
+use Rattle.std.specs.Prelude.{ℕ, ◌-◌, ◌*◌, nat_le, Bool, true, false, ◌&&◌, ◌==◌, if◌then◌else◌, Option, Some, None}
 use Rattle.gtd_hours.specs.declared.hours.Link.TheVariants as link
 use Rattle.gtd_hours_tokens.specs.declared.token.TokenKind.TheVariants as token
 use Rattle.gtd_hours_parts.specs.declared.digits.Digits.{Digits}
 use Rattle.gtd_hours_parts.specs.declared.clock.ClockTime.{ClockTime}
+use Rattle.gtd_hours_parts.specs.declared.piece.Offset.{Offset}
 use Rattle.gtd_hours_parts.specs.declared.piece.WrittenDate.{WrittenDate}
 use Rattle.gtd_hours_parts.specs.declared.piece.LastDate.TheVariants as last_date
 use Rattle.gtd_hours_grammar.specs.Terms.{TokenKind, Piece, Stage, Place, Move}
@@ -273,7 +274,7 @@ week_step a b next fits = None
 
 abbrev pub weekday : ℕ → Option TokenKind → Option Move
 weekday k (Some token.Dash) = take (places.WeekdayDash k)
-weekday k (Some token.OpenBracket) = take (places.Bracket k)
+weekday k (Some token.OpenBracket) = take (places.Bracket k 28)
 weekday k next = give (piece.Weekdays k None) (places.After stage.Weekdays)
 
 abbrev pub weekday_dash : ℕ → Option TokenKind → Bool → Option Move
@@ -281,29 +282,56 @@ weekday_dash k (Some (token.Weekday l)) fits =
     when fits (complete (piece.Weekdays k (Some l)) (places.After stage.Weekdays))
 weekday_dash k next fits = None
 
-abbrev pub bracket : ℕ → Option TokenKind → Bool → Option Move
-bracket k (Some (token.Number v d)) fits = when fits (take (places.Nth k (written v d)))
-bracket k (Some token.Dash) fits = take (places.BracketDash k)
-bracket k next fits = None
+-- the reach with one place more, from the beginning of the month or back from its end
+abbrev pub front_reach : ℕ → ℕ → ℕ
+front_reach reach place = if nat_le place 4 then reach else 0
 
-abbrev pub bracket_dash : ℕ → Option TokenKind → Bool → Option Move
-bracket_dash k (Some (token.Number v d)) fits =
-    when fits (complete (piece.PlaceBack k (written v d)) (places.BracketEnd k))
-bracket_dash k next fits = None
+abbrev pub back_most : ℕ → ℕ
+back_most place = if nat_le place 4 then 29 - 7 * place else 0
 
-abbrev pub nth : ℕ → Digits → Option TokenKind → Option Move
-nth k n (Some token.Dash) = take (places.NthDash k n)
-nth k n next = give (piece.Places k n None) (places.BracketEnd k)
+abbrev pub back_reach : ℕ → ℕ → ℕ
+back_reach reach place = if nat_le reach (back_most place) then reach else back_most place
 
-abbrev pub nth_dash : ℕ → Digits → Option TokenKind → Bool → Option Move
-nth_dash k n (Some (token.Number v d)) fits =
-    when fits (complete (piece.Places k n (Some (written v d))) (places.BracketEnd k))
-nth_dash k n next fits = None
+abbrev pub bracket : ℕ → ℕ → Option TokenKind → Bool → Option Move
+bracket k r (Some (token.Number v d)) fits = when fits (take (places.Nth k (written v d) r))
+bracket k r (Some token.Dash) fits = take (places.BracketDash k r)
+bracket k r next fits = None
 
-abbrev pub bracket_end : ℕ → Option TokenKind → Option Move
-bracket_end k (Some token.Comma) = take (places.Bracket k)
-bracket_end k (Some token.CloseBracket) = take (places.After stage.Weekdays)
-bracket_end k next = None
+abbrev pub bracket_dash : ℕ → ℕ → Option TokenKind → Bool → Option Move
+bracket_dash k r (Some (token.Number v d)) fits =
+    when fits (complete (piece.PlaceBack k (written v d)) (places.BracketEnd k (back_reach r v)))
+bracket_dash k r next fits = None
+
+abbrev pub nth : ℕ → Digits → ℕ → Option TokenKind → Option Move
+nth k n r (Some token.Dash) = take (places.NthDash k n r)
+nth k n r next = give (piece.Places k n None) (places.BracketEnd k (front_reach r n.value))
+
+abbrev pub nth_dash : ℕ → Digits → ℕ → Option TokenKind → Bool → Option Move
+nth_dash k n r (Some (token.Number v d)) fits =
+    when fits (complete (piece.Places k n (Some (written v d))) (places.BracketEnd k (front_reach r v)))
+nth_dash k n r next fits = None
+
+abbrev pub bracket_end : ℕ → ℕ → Option TokenKind → Option Move
+bracket_end k r (Some token.Comma) = take (places.Bracket k r)
+bracket_end k r (Some token.CloseBracket) = take (places.PlacesEnd r)
+bracket_end k r next = None
+
+-- behind brackets an offset may follow
+abbrev pub places_end : ℕ → Option TokenKind → Option Move
+places_end r (Some token.Plus) = when (nat_le 1 r) (take (places.OffsetSign false r))
+places_end r (Some token.Dash) = when (nat_le 2 r) (take (places.OffsetSign true r))
+places_end r next = give (piece.PlacesEnd None) (places.After stage.Weekdays)
+
+abbrev pub offset_of : Bool → ℕ → ℕ → Offset
+offset_of before value digits = record { is_before = before; days = written value digits }
+
+abbrev pub offset_sign : Bool → Option TokenKind → Bool → Option Move
+offset_sign before (Some (token.Number v d)) fits = when fits (take (places.OffsetNumber (offset_of before v d)))
+offset_sign before next fits = None
+
+abbrev pub offset_number : Offset → Option TokenKind → Option Move
+offset_number o (Some token.Day) = complete (piece.PlacesEnd (Some o)) (places.After stage.Weekdays)
+offset_number o next = None
 
 -- ---- times
 
@@ -352,11 +380,14 @@ next_move (places.WeekBack a b) next fits = week_back a b next
 next_move (places.WeekAgain a b) next fits = week_again b
 next_move (places.Weekday k) next fits = weekday k next
 next_move (places.WeekdayDash k) next fits = weekday_dash k next fits
-next_move (places.Bracket k) next fits = bracket k next fits
-next_move (places.BracketDash k) next fits = bracket_dash k next fits
-next_move (places.Nth k n) next fits = nth k n next
-next_move (places.NthDash k n) next fits = nth_dash k n next fits
-next_move (places.BracketEnd k) next fits = bracket_end k next
+next_move (places.Bracket k r) next fits = bracket k r next fits
+next_move (places.BracketDash k r) next fits = bracket_dash k r next fits
+next_move (places.Nth k n r) next fits = nth k n r next
+next_move (places.NthDash k n r) next fits = nth_dash k n r next fits
+next_move (places.BracketEnd k r) next fits = bracket_end k r next
+next_move (places.PlacesEnd r) next fits = places_end r next
+next_move (places.OffsetSign before r) next fits = offset_sign before next fits
+next_move (places.OffsetNumber o) next fits = offset_number o next
 next_move (places.Time t) next fits = time t next
 next_move (places.TimeDash t) next fits = time_dash t next fits
 next_move (places.AfterDate y m) next fits = after_date y m next fits
@@ -374,5 +405,5 @@ rank (places.WeekBack a b) = 2
 rank places.Front = 0
 rank (places.After s) = 0
 rank (places.AfterDate y m) = 0
-rank (places.BracketEnd k) = 0
+rank (places.BracketEnd k r) = 0
 rank place = 1

@@ -2,6 +2,7 @@
 -- before those that follow.
 use Rattle.std.specs.Prelude.{List, ◌≡◌, ℕ, ◌∷◌, Option, Some, None}
 use Rattle.gtd_hours_parts.specs.declared.digits.Digits.{Digits}
+use Rattle.gtd_hours_parts.specs.declared.piece.Offset.{Offset}
 use Rattle.gtd_hours_parts.specs.declared.piece.WrittenDate.{WrittenDate}
 use Rattle.gtd_hours_tokens.specs.declared.token.TokenKind.TheVariants as token
 use Rattle.gtd_hours_grammar.specs.Terms.{TokenKind, Piece, Stage, Place}
@@ -10,7 +11,8 @@ use Rattle.gtd_hours_grammar.specs.declared.stage.Stage.TheVariants as stage
 use Rattle.gtd_hours_grammar.specs.declared.place.Place.TheVariants as places
 use Rattle.gtd_hours_parts.specs.Pieces.{IsDay, final_week}
 use Rattle.gtd_hours_grammar.specs.Grammar.{Demand, Follow, IsDates, IsOne, IsPlaces, Listed, More, dated, months_to, number}
-use Rattle.gtd_hours_grammar.specs.Grammar.{time}
+use Rattle.gtd_hours_grammar.specs.Grammar.{IsOffset, offset_before, sign, time}
+use Rattle.gtd_hours_grammar.specs.Sound.{ReachesTo}
 
 -- the rest behind one of a list
 pub record Behind (demand : Demand) (s : Stage) (p : List Piece) (ts : List TokenKind) : Type 0 where
@@ -26,18 +28,44 @@ pub record From (demand : Demand) (s : Stage) (p : List Piece) (ts : List TokenK
   pub one : IsOne demand s p ts later rest
   pub behind : Behind demand s later rest
 
--- the rest from a place in brackets on
-pub record InBrackets (demand : Demand) (weekday : ℕ) (p : List Piece) (ts : List TokenKind) : Type 0 where
+-- the rest from a place in brackets on, where the places before it have this reach
+pub record InBrackets (demand : Demand) (weekday reach : ℕ) (p : List Piece) (ts : List TokenKind) : Type 0 where
   pub later : List Piece
   pub rest : List TokenKind
-  pub listed : Listed (IsPlaces weekday) p ts later (token.CloseBracket ∷ rest)
+  pub offset : Option Offset
+  pub is : IsOffset offset
+  pub reaches : ReachesTo reach offset
+  pub listed : Listed (IsPlaces weekday offset) p ts (piece.PlacesEnd offset ∷ later)
+      (token.CloseBracket ∷ offset_before offset rest)
   pub behind : Behind demand stage.Weekdays later rest
 
 -- the rest behind a place in brackets
-pub record BehindPlace (demand : Demand) (weekday : ℕ) (p : List Piece) (ts : List TokenKind) : Type 0 where
+pub record BehindPlace (demand : Demand) (weekday reach : ℕ) (p : List Piece) (ts : List TokenKind) : Type 0 where
   pub later : List Piece
   pub rest : List TokenKind
-  pub more : More (IsPlaces weekday) later (token.CloseBracket ∷ rest) p ts
+  pub offset : Option Offset
+  pub is : IsOffset offset
+  pub reaches : ReachesTo reach offset
+  pub more : More (IsPlaces weekday offset) (piece.PlacesEnd offset ∷ later) (token.CloseBracket ∷ offset_before offset rest) p ts
+  pub behind : Behind demand stage.Weekdays later rest
+
+-- the rest behind brackets
+pub record BehindBrackets (demand : Demand) (reach : ℕ) (p : List Piece) (ts : List TokenKind) : Type 0 where
+  pub later : List Piece
+  pub rest : List TokenKind
+  pub offset : Option Offset
+  pub is : IsOffset offset
+  pub reaches : ReachesTo reach offset
+  pub pieces : p ≡ piece.PlacesEnd offset ∷ later
+  pub tokens : ts ≡ offset_before offset rest
+  pub behind : Behind demand stage.Weekdays later rest
+
+-- the rest behind the sign and the number of an offset
+pub record BehindNumber (demand : Demand) (o : Offset) (p : List Piece) (ts : List TokenKind) : Type 0 where
+  pub later : List Piece
+  pub rest : List TokenKind
+  pub pieces : p ≡ piece.PlacesEnd (Some o) ∷ later
+  pub tokens : ts ≡ token.Day ∷ rest
   pub behind : Behind demand stage.Weekdays later rest
 
 -- the rest behind a date
@@ -91,11 +119,14 @@ Rest d (places.WeekAgain a b) p ts =
     From d stage.Weeks (piece.Weeks a (Some final_week) None ∷ p) (number a ∷ token.Dash ∷ number b ∷ ts)
 Rest d (places.Weekday k) p ts = From d stage.Weekdays p (token.Weekday k ∷ ts)
 Rest d (places.WeekdayDash k) p ts = From d stage.Weekdays p (token.Weekday k ∷ token.Dash ∷ ts)
-Rest d (places.Bracket k) p ts = InBrackets d k p ts
-Rest d (places.BracketDash k) p ts = InBrackets d k p (token.Dash ∷ ts)
-Rest d (places.Nth k n) p ts = InBrackets d k p (number n ∷ ts)
-Rest d (places.NthDash k n) p ts = InBrackets d k p (number n ∷ token.Dash ∷ ts)
-Rest d (places.BracketEnd k) p ts = BehindPlace d k p ts
+Rest d (places.Bracket k r) p ts = InBrackets d k r p ts
+Rest d (places.BracketDash k r) p ts = InBrackets d k r p (token.Dash ∷ ts)
+Rest d (places.Nth k n r) p ts = InBrackets d k r p (number n ∷ ts)
+Rest d (places.NthDash k n r) p ts = InBrackets d k r p (number n ∷ token.Dash ∷ ts)
+Rest d (places.BracketEnd k r) p ts = BehindPlace d k r p ts
+Rest d (places.PlacesEnd r) p ts = BehindBrackets d r p ts
+Rest d (places.OffsetSign before r) p ts = BehindBrackets d r p (sign before ∷ ts)
+Rest d (places.OffsetNumber o) p ts = BehindNumber d o p ts
 Rest d (places.Time t) p ts = From d stage.Times p (time t ∷ ts)
 Rest d (places.TimeDash t) p ts = From d stage.Times p (time t ∷ token.Dash ∷ ts)
 Rest d (places.After s) p ts = Behind d s p ts

@@ -1,11 +1,12 @@
 -- What is known of the numbers and times that a place keeps, and which ones fit next.
-use Rattle.std.specs.Prelude.{◌≡◌, ℕ, Bool, true, false, ◌&&◌, ◌==◌, Option, Some, None, IfSome, is_some}
+use Rattle.std.specs.Prelude.{◌≡◌, ℕ, ◌<◌, ◌≤◌, Bool, true, false, ◌&&◌, ◌==◌, Option, Some, None, IfSome, is_some}
 use Rattle.gtd_hours.specs.Ranges.{IsMonth, IsWeekday}
 use Rattle.gtd_hours_tokens.specs.declared.token.TokenKind.TheVariants as token
 use Rattle.gtd_hours_parts.specs.declared.digits.Digits.{Digits}
 use Rattle.gtd_hours_parts.specs.declared.clock.ClockTime.{ClockTime}
-use Rattle.gtd_hours_parts.specs.Numbers.{IsPlaceNumber, IsStepNumber, IsWeekNumber, IsYearNumber}
+use Rattle.gtd_hours_parts.specs.Numbers.{IsOffsetNumber, IsPlaceNumber, IsStepNumber, IsWeekNumber, IsYearNumber}
 use Rattle.gtd_hours_parts.specs.Times.{IsBegin}
+use Rattle.gtd_hours_parts.specs.declared.piece.Offset.{Offset}
 use Rattle.gtd_hours_parts.specs.declared.piece.WrittenDate.{WrittenDate}
 use Rattle.gtd_hours_parts.specs.declared.piece.LastDate.TheVariants as last_date
 use Rattle.gtd_hours_grammar.specs.Terms.{TokenKind, Stage, Place}
@@ -22,6 +23,16 @@ pub record Both (A B : Type 0) : Type 0 where
 -- the year of a last date stands only where the first date has one
 abbrev pub IsLastYear : WrittenDate → Option Digits → Type 0
 IsLastYear first year = Both (is_some year ≡ true → is_some first.year ≡ true) (IfSome year IsYearNumber)
+
+-- How far an offset may go from the places in brackets so far: their reach is 0 where none may; else it is one more than the
+-- days that one before them may have, and one after them may have any.
+abbrev pub Reaches : ℕ → Bool → ℕ → Type 0
+Reaches reach true days = days < reach
+Reaches reach false days = 1 ≤ reach
+
+abbrev pub ReachesTo : ℕ → Option Offset → Type 0
+ReachesTo reach None = Unit {0}
+ReachesTo reach (Some o) = Reaches reach o.is_before o.days.value
 
 -- the numbers and times that a place keeps are in range
 abbrev pub IsPlace : Place → Type 0
@@ -54,11 +65,13 @@ IsPlace (places.WeekBack a b) = AreBackWeeks a b
 IsPlace (places.WeekAgain a b) = AreBackWeeks a b
 IsPlace (places.Weekday k) = IsWeekday k
 IsPlace (places.WeekdayDash k) = IsWeekday k
-IsPlace (places.Bracket k) = IsWeekday k
-IsPlace (places.BracketDash k) = IsWeekday k
-IsPlace (places.Nth k n) = Both (IsWeekday k) (IsPlaceNumber n)
-IsPlace (places.NthDash k n) = Both (IsWeekday k) (IsPlaceNumber n)
-IsPlace (places.BracketEnd k) = IsWeekday k
+IsPlace (places.Bracket k r) = IsWeekday k
+IsPlace (places.BracketDash k r) = IsWeekday k
+IsPlace (places.Nth k n r) = Both (IsWeekday k) (IsPlaceNumber n)
+IsPlace (places.NthDash k n r) = Both (IsWeekday k) (IsPlaceNumber n)
+IsPlace (places.BracketEnd k r) = IsWeekday k
+IsPlace (places.OffsetSign before r) = Reaches r before 1
+IsPlace (places.OffsetNumber o) = IsOffsetNumber o.days
 IsPlace (places.Time t) = IsBegin t
 IsPlace (places.TimeDash t) = IsBegin t
 IsPlace (places.AfterDate year m) = Both (IfSome year IsYearNumber) (IsMonth m)
@@ -108,9 +121,10 @@ NumberFits (places.DateDashMonth first year m) n =
 NumberFits places.WeekWord n = IsWeekNumber n
 NumberFits (places.WeekDash first) n = IsWeekNumber n
 NumberFits (places.WeekStep first last) n = IsStepNumber n
-NumberFits (places.Bracket k) n = IsPlaceNumber n
-NumberFits (places.BracketDash k) n = IsPlaceNumber n
-NumberFits (places.NthDash k first) n = IsRange IsPlaceNumber first n
+NumberFits (places.Bracket k r) n = IsPlaceNumber n
+NumberFits (places.BracketDash k r) n = IsPlaceNumber n
+NumberFits (places.NthDash k first r) n = IsRange IsPlaceNumber first n
+NumberFits (places.OffsetSign before r) n = IsOffsetNumber n × Reaches r before n.value
 NumberFits (places.AfterDate year m) n = IsYearNumber n
 NumberFits (places.CommaDate year m) n = YearOrListed (n.count == 4) year m n
 NumberFits (places.After s) n = IsYearNumber n
@@ -156,9 +170,10 @@ takes_number (places.DateDashMonth x year m) = true
 takes_number places.WeekWord = true
 takes_number (places.WeekDash n) = true
 takes_number (places.WeekStep a b) = true
-takes_number (places.Bracket k) = true
-takes_number (places.BracketDash k) = true
-takes_number (places.NthDash k n) = true
+takes_number (places.Bracket k r) = true
+takes_number (places.BracketDash k r) = true
+takes_number (places.NthDash k n r) = true
+takes_number (places.OffsetSign before r) = true
 takes_number (places.CommaDate year m) = true
 takes_number (places.After s) = precedes s stage.MonthDays
 takes_number (places.Comma s) = true
@@ -182,6 +197,7 @@ takes_time (places.WeekRange a b) = true
 takes_time (places.WeekBack a b) = true
 takes_time (places.WeekAgain a b) = true
 takes_time (places.Weekday k) = true
+takes_time (places.PlacesEnd r) = true
 takes_time (places.TimeDash t) = true
 takes_time (places.After s) = precedes s stage.Times
 takes_time (places.Comma s) = true

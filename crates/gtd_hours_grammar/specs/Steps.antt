@@ -9,7 +9,7 @@ use Rattle.gtd_hours_grammar.specs.Terms.{Token, TokenKind, Piece, Place, Move}
 use Rattle.gtd_hours_grammar.specs.declared.place.Place.TheVariants as places
 use Rattle.gtd_hours_grammar.specs.declared.reading.Reading.{Reading}
 use Rattle.gtd_hours_grammar.specs.Grammar.{Demand}
-use Rattle.gtd_hours_grammar.specs.Faults.{kinds, last_from, last_kind}
+use Rattle.gtd_hours_grammar.specs.Faults.{is_offset, kind_before, kinds, last_from, last_kind}
 use Rattle.gtd_hours_grammar.specs.Places.{Rest}
 use Rattle.gtd_hours_grammar.specs.Sound.{Fits, IsPlace}
 use Rattle.gtd_hours_grammar.specs.Moves.{next_move, rank}
@@ -58,6 +58,7 @@ pub record IsTokenReading (text : List ℕ) (reading : Reading) (given : List Pi
   pub stands : IsPlace reading.at
   pub read : HasRead text reading.place reading.behind one
   pub last : last_kind (kinds read.before) ≡ reading.last
+  pub before_last : kind_before (kinds read.before) ≡ reading.before_last
   pub from : last_from read.before ≡ reading.from
   pub gives : GivesTo reading.behind reading.at (first (kinds read.later)) two
 
@@ -78,21 +79,38 @@ kind_of (Some t) = Some t.kind
 
 -- the reading behind a move
 abbrev pub moved : Bool → Reading → Token → Place → Reading
-moved true reading t to = record { place = t.to; behind = to; at = to; last = Some t.kind; from = t.from }
+moved true reading t to =
+    record { place = t.to; behind = to; at = to; before_last = reading.last; last = Some t.kind; from = t.from }
 moved false reading t to =
-    record { place = reading.place; behind = reading.behind; at = to; last = reading.last; from = reading.from }
+    record {
+      place = reading.place;
+      behind = reading.behind;
+      at = to;
+      before_last = reading.before_last;
+      last = reading.last;
+      from = reading.from;
+    }
 
 abbrev pub advanced : Reading → Option Token → Move → Reading
 advanced reading None move =
-    record { place = reading.place; behind = reading.behind; at = move.to; last = reading.last; from = reading.from }
+    record {
+      place = reading.place;
+      behind = reading.behind;
+      at = move.to;
+      before_last = reading.before_last;
+      last = reading.last;
+      from = reading.from;
+    }
 advanced reading (Some t) move = moved move.takes reading t move.to
 
 -- the fault at a token that does not go on
-abbrev pub fault_of : FaultKind → ℕ → Token → HoursFault
-fault_of kind before t = record { kind = kind; place = place_of kind before t }
+abbrev pub fault_of : FaultKind → Bool → ℕ → Token → HoursFault
+fault_of kind offset before t = record { kind = kind; place = place_of kind offset before t }
 
 abbrev pub fault_at : Reading → Token → HoursFault
-fault_at reading t = fault_of (misfit_of reading.behind reading.at reading.last t.kind) reading.from t
+fault_at reading t =
+    fault_of (misfit_of reading.behind reading.at reading.before_last reading.last t.kind)
+    (is_offset reading.before_last reading.last) reading.from t
 
 -- what a reading comes to where no move can be made
 abbrev pub ended : List ℕ → Bool → Result (Option (Part × Reading)) HoursFault

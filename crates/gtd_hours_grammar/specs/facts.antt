@@ -4,6 +4,7 @@ pub mod FollowBits
 pub mod FollowSteps
 pub mod FollowWeeks
 pub mod FollowYears
+pub mod Reaching
 pub mod FollowWeekdays
 pub mod FollowDays
 pub mod FollowDates

@@ -4,6 +4,7 @@ ghost use Rattle.std.specs.Prelude.{◌≡◌, ◌↔◌, ◌==◌, true};
 ghost use Rattle.gtd_hours_parts.specs.Numbers.{IsPlaceNumber};
 ghost use Rattle.gtd_hours_parts.specs.Pieces.{EndsRange, IsRange, IsWrittenDate};
 ghost use Rattle.gtd_hours_grammar.specs.Grammar.{by_place, with_years};
+ghost use Rattle.gtd_hours_grammar.specs.declared.place.Place.TheVariants as places;
 ghost use Rattle.gtd_hours_grammar.specs.Runs.{is_judged};
 ghost use Rattle.gtd_hours_grammar.specs.Sound.{Fits, IsPlace, ListedFits, MonthFits, NumberFits, TimeFits, YearOrDayFits};
 ghost use Rattle.gtd_hours_grammar.specs.Sound.{YearOrListed};
@@ -61,6 +62,18 @@ fn last_place_fits(first: Digits, number: Digits) -> bool
     first.place().is_some() && number.place().is_some() && first.value <= number.value
 }
 
+// The days of an offset of places that have this reach.
+fn offset_fits(is_before: bool, reach: u16, days: Digits) -> bool
+    ensures { (result ≡ true) ↔ NumberFits (places.OffsetSign is_before reach) days }
+{
+    days.offset().is_some()
+        && (if is_before {
+            days.value < reach
+        } else {
+            1 <= reach
+        })
+}
+
 // The number goes on with the list of a stage.
 fn listed_fits(stage: Stage, number: Digits) -> bool
     ensures { (result ≡ true) ↔ ListedFits stage number }
@@ -107,9 +120,14 @@ fn number_fits(place: Place, number: Digits) -> bool
         Place::WeekWord => number.week().is_some(),
         Place::WeekDash(_) => number.week().is_some(),
         Place::WeekStep { .. } => number.step().is_some(),
-        Place::Bracket(_) => number.place().is_some(),
-        Place::BracketDash(_) => number.place().is_some(),
+        Place::Bracket { .. } => number.place().is_some(),
+        Place::BracketDash { .. } => number.place().is_some(),
+        Place::Nth { .. } => false,
         Place::NthDash { number: first, .. } => last_place_fits(first, number),
+        Place::BracketEnd { .. } => false,
+        Place::PlacesEnd(_) => false,
+        Place::OffsetNumber(_) => false,
+        Place::OffsetSign { is_before, reach } => offset_fits(is_before, reach, number),
         Place::AfterDate { .. } => number.year().is_some(),
         Place::CommaDate { year, month } => year_or_listed_fits(year, month, number),
         Place::After(_) => number.year().is_some(),
@@ -182,7 +200,9 @@ pub fn takes_number(place: Place) -> bool
         Place::Weekday(_) => false,
         Place::WeekdayDash(_) => false,
         Place::Nth { .. } => false,
-        Place::BracketEnd(_) => false,
+        Place::BracketEnd { .. } => false,
+        Place::PlacesEnd(_) => false,
+        Place::OffsetNumber(_) => false,
         Place::Time(_) => false,
         Place::TimeDash(_) => false,
         Place::After(stage) => stage.precedes(Stage::MonthDays),
@@ -239,6 +259,7 @@ pub fn takes_time(place: Place) -> bool
         Place::WeekBack { .. } => true,
         Place::WeekAgain { .. } => true,
         Place::Weekday(_) => true,
+        Place::PlacesEnd(_) => true,
         Place::TimeDash(_) => true,
         Place::After(stage) => stage.precedes(Stage::Times),
         Place::Comma(_) => true,

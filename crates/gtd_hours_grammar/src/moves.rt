@@ -8,6 +8,7 @@ ghost use Rattle.gtd_hours_grammar.specs.Sound.{Fits, IsPlace};
 mod day_lists;
 mod month_days;
 mod moving;
+mod offsets;
 mod rules;
 mod times;
 mod weekdays;
@@ -66,11 +67,24 @@ pub fn next_move(place: Place, next: Option<TokenKind>, fits: bool) -> Option<Mo
         Place::WeekAgain { first, last } => weeks::week_again(first, last),
         Place::Weekday(day) => weekdays::weekday(day, next),
         Place::WeekdayDash(first) => weekdays::weekday_dash(first, next, fits),
-        Place::Bracket(weekday) => weekdays::bracket(weekday, next, fits),
-        Place::BracketDash(weekday) => weekdays::bracket_dash(weekday, next, fits),
-        Place::Nth { weekday, number } => weekdays::nth(weekday, number, next),
-        Place::NthDash { weekday, number } => weekdays::nth_dash(weekday, number, next, fits),
-        Place::BracketEnd(weekday) => weekdays::bracket_end(weekday, next),
+        Place::Bracket { weekday, reach } => weekdays::bracket(weekday, reach, next, fits),
+        Place::BracketDash { weekday, reach } => weekdays::bracket_dash(weekday, reach, next, fits),
+        Place::Nth {
+            weekday,
+            number,
+            reach,
+        } => weekdays::nth(weekday, number, reach, next),
+        Place::NthDash {
+            weekday,
+            number,
+            reach,
+        } => { weekdays::nth_dash(weekday, number, reach, next, fits) }
+        Place::BracketEnd { weekday, reach } => weekdays::bracket_end(weekday, reach, next),
+        Place::PlacesEnd(reach) => offsets::places_end(reach, next),
+        Place::OffsetSign { is_before, reach } => {
+            offsets::offset_sign(is_before, reach, next, fits)
+        }
+        Place::OffsetNumber(offset) => offsets::offset_number(offset, next),
         Place::Time(time) => times::time(time, next),
         Place::TimeDash(begin) => times::time_dash(begin, next, fits),
         Place::AfterDate { year, month } => day_lists::after_date(year, month, next, fits),

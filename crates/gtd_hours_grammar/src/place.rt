@@ -4,7 +4,7 @@ ghost use Rattle.std.specs.Prelude.{◌≡◌};
 ghost use Rattle.gtd_hours_grammar.specs.Runs.{is_after};
 
 use crate::stage::Stage;
-use gtd_hours_parts::{ClockTime, Digits, Piece, WrittenDate};
+use gtd_hours_parts::{ClockTime, Digits, Offset, Piece, WrittenDate};
 
 /// Behind which tokens the reading stands, with what must be kept of them.
 #[derive(Clone, Copy)]
@@ -145,15 +145,28 @@ pub enum Place {
     /// `Mo-`
     WeekdayDash(u8),
     /// `We[`, and a comma in brackets.
-    Bracket(u8),
+    Bracket {
+        /// The weekday before the brackets.
+        weekday: u8,
+        /// How far an offset may go from the places so far: 0 where none may; else one more than the days that one before them
+        /// may have.
+        reach: u16,
+    },
     /// `We[-`
-    BracketDash(u8),
+    BracketDash {
+        /// The weekday before the brackets.
+        weekday: u8,
+        /// That of the places before this one.
+        reach: u16,
+    },
     /// `We[1`
     Nth {
         /// The weekday before the brackets.
         weekday: u8,
         /// The place in the month.
         number: Digits,
+        /// That of the places before this one.
+        reach: u16,
     },
     /// `We[1-`
     NthDash {
@@ -161,9 +174,27 @@ pub enum Place {
         weekday: u8,
         /// The first place in the month.
         number: Digits,
+        /// That of the places before this one.
+        reach: u16,
     },
     /// `We[1-2`, `We[-1`
-    BracketEnd(u8),
+    BracketEnd {
+        /// The weekday before the brackets.
+        weekday: u8,
+        /// That of the places so far.
+        reach: u16,
+    },
+    /// `We[1]`, with the reach of the places.
+    PlacesEnd(u16),
+    /// `We[1] -`
+    OffsetSign {
+        /// Whether the days will be before the places.
+        is_before: bool,
+        /// That of the places.
+        reach: u16,
+    },
+    /// `We[1] -2`
+    OffsetNumber(Offset),
     /// `08:00`
     Time(ClockTime),
     /// `08:00-`

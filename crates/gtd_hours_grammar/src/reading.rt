@@ -5,7 +5,8 @@ ghost use Rattle.gtd_hours_tokens.specs.Lexing.{IsNext};
 ghost use Rattle.gtd_hours_tokens.specs.facts.WholeText.{HasRead};
 ghost use Rattle.gtd_hours_tokens.specs.declared.token.Token.{Token};
 ghost use Rattle.gtd_hours_parts.specs.declared.piece.Piece.{Piece};
-ghost use Rattle.gtd_hours_grammar.specs.Faults.{IsFirstFault, IsHoursText, ends_years, is_slash, plus_kind};
+ghost use Rattle.gtd_hours_grammar.specs.Faults.{IsFirstFault, IsHoursText, dash_kind, day_kind, is_few, is_offset};
+ghost use Rattle.gtd_hours_grammar.specs.Faults.{is_slash, is_told_before, plus_kind, weekday_kind};
 ghost use Rattle.gtd_hours_grammar.specs.Kinds.{misfit_of, number_misfit, place_of, range_if};
 ghost use Rattle.gtd_hours_grammar.specs.Runs.{IsGood};
 ghost use Rattle.gtd_hours_grammar.specs.Sound.{IsPlace};
@@ -30,6 +31,8 @@ pub struct Reading {
     behind: Place,
     // Where it stands now.
     at: Place,
+    // The token before the one that was read last.
+    before_last: Option<TokenKind>,
     // The token that was read last.
     last: Option<TokenKind>,
     // The number of bytes before it.
@@ -44,6 +47,7 @@ pub fn begin() -> Reading
         place: 0,
         behind: Place::Front,
         at: Place::Front,
+        before_last: None,
         last: None,
         from: 0,
     }
@@ -151,6 +155,7 @@ fn advanced(reading: Reading, next: Option<Token>, step: Move) -> Reading
                     place: token.to,
                     behind: step.to,
                     at: step.to,
+                    before_last: reading.last,
                     last: Some(token.kind),
                     from: token.from,
                 }
@@ -194,12 +199,12 @@ fn end_or_fault(
 }
 
 // The fault at a token that cannot come next. Weeks that go back have no step: the second week, before the slash, is told. A step
-// of too many years is told at the slash before it.
+// of too many years is told at the slash before it, and an offset that leads back too far at its sign.
 fn fault_at(now: Reading, token: Token) -> HoursFault
     ensures { result ≡ fault_at now token }
 {
     let kind = misfit(now, token.kind);
-    let place = place_of(kind, now.from, token);
+    let place = place_of(kind, is_offset(now.before_last, now.last), now.from, token);
     HoursFault { kind, place }
 }
 
@@ -214,20 +219,52 @@ fn number_misfit(many: bool, fits_by_place: bool) -> FaultKind
     }
 }
 
-// Where a fault of this kind is told at a token, behind one at the place before.
-fn place_of(kind: FaultKind, before: usize, token: Token) -> usize
-    ensures { result ≡ place_of kind before token }
+// Where a fault of this kind is told at a token, behind one at the place before, which may be the sign of an offset.
+fn place_of(kind: FaultKind, offset: bool, before: usize, token: Token) -> usize
+    ensures { result ≡ place_of kind offset before token }
 {
     match kind {
         FaultKind::Years => before,
         FaultKind::Range => {
-            if is_slash(token.kind) {
+            if is_told_before(offset, token.kind) {
                 before
             } else {
                 token.from
             }
         }
         _ => token.from,
+    }
+}
+
+fn is_told_before(offset: bool, kind: TokenKind) -> bool
+    ensures { result ≡ is_told_before offset kind }
+{
+    is_slash(kind) || offset && is_few(kind)
+}
+
+// The number of an offset, by its digits and its value.
+fn is_few(kind: TokenKind) -> bool
+    ensures { result ≡ is_few kind }
+{
+    match kind {
+        TokenKind::Number { value, digits } => {
+            1 <= digits && digits <= 2 && 1 <= value && value <= 27
+        }
+        _ => false,
+    }
+}
+
+// Of two tokens, the second is the sign of an offset.
+fn is_offset(before: Option<TokenKind>, last: Option<TokenKind>) -> bool
+    ensures { result ≡ is_offset before last }
+{
+    match before {
+        Some(TokenKind::CloseBracket) => match last {
+            Some(TokenKind::Plus) => true,
+            Some(TokenKind::Dash) => true,
+            _ => false,
+        },
+        _ => false,
     }
 }
 
@@ -239,7 +276,7 @@ fn is_slash(kind: TokenKind) -> bool
 
 // What is wrong with a token that cannot come next, behind the one that was read last.
 fn misfit(now: Reading, kind: TokenKind) -> FaultKind
-    ensures { result ≡ misfit_of now.behind now.at now.last kind }
+    ensures { result ≡ misfit_of now.behind now.at now.before_last now.last kind }
 {
     match kind {
         TokenKind::Number { .. } => {
@@ -250,15 +287,21 @@ fn misfit(now: Reading, kind: TokenKind) -> FaultKind
         TokenKind::Slash => range_if(is_judged(now.at, kind)),
         TokenKind::Unsupported => FaultKind::Unsupported,
         TokenKind::Plus => plus_kind(now.last),
+        TokenKind::Dash => dash_kind(now.last),
+        TokenKind::Day => day_kind(now.before_last, now.last),
+        TokenKind::Weekday(_) => weekday_kind(is_offset(now.before_last, now.last)),
         _ => FaultKind::Unexpected,
     }
 }
 
-// Behind years a `+` is unexpected. Elsewhere it would be an open end or an offset, which are not read.
+// Behind brackets a `+` is an offset, which suits none of the places. Behind years and weekdays it is unexpected. Elsewhere it
+// would be an open end or an offset that is not read.
 fn plus_kind(last: Option<TokenKind>) -> FaultKind
-    ensures { result ≡ plus_kind (ends_years last) }
+    ensures { result ≡ plus_kind last }
 {
     match last {
+        Some(TokenKind::CloseBracket) => FaultKind::Range,
+        Some(TokenKind::Weekday(_)) => FaultKind::Unexpected,
         Some(TokenKind::Number { digits, .. }) => {
             if digits == 4 {
                 FaultKind::Unexpected
@@ -268,6 +311,39 @@ fn plus_kind(last: Option<TokenKind>) -> FaultKind
         }
         Some(TokenKind::Plus) => FaultKind::Unexpected,
         _ => FaultKind::Unsupported,
+    }
+}
+
+fn dash_kind(last: Option<TokenKind>) -> FaultKind
+    ensures { result ≡ dash_kind last }
+{
+    match last {
+        Some(TokenKind::CloseBracket) => FaultKind::Range,
+        _ => FaultKind::Unexpected,
+    }
+}
+
+// A weekday behind the sign of an offset is an offset to a weekday.
+fn weekday_kind(offset: bool) -> FaultKind
+    ensures { result ≡ weekday_kind offset }
+{
+    if offset {
+        FaultKind::Unsupported
+    } else {
+        FaultKind::Unexpected
+    }
+}
+
+// `day` behind a range of dates is an offset of a date.
+fn day_kind(before: Option<TokenKind>, last: Option<TokenKind>) -> FaultKind
+    ensures { result ≡ day_kind before last }
+{
+    match before {
+        Some(TokenKind::Dash) => match last {
+            Some(TokenKind::Number { .. }) => FaultKind::Unsupported,
+            _ => FaultKind::Unexpected,
+        },
+        _ => FaultKind::Unexpected,
     }
 }
 

@@ -17,6 +17,10 @@ IsWeekNumber n = (1 ≤ n.count) × (n.count ≤ 2) × (1 ≤ n.value) × (n.val
 abbrev pub IsPlaceNumber : Digits → Type 0
 IsPlaceNumber n = (n.count ≡ 1) × (1 ≤ n.value) × (n.value ≤ 5)
 
+-- the days of an offset have one or two
+abbrev pub IsOffsetNumber : Digits → Type 0
+IsOffsetNumber n = (1 ≤ n.count) × (n.count ≤ 2) × (1 ≤ n.value) × (n.value ≤ 27)
+
 -- the step of a range has one to four
 abbrev pub IsStepNumber : Digits → Type 0
 IsStepNumber n = (1 ≤ n.count) × (n.count ≤ 4) × (1 ≤ n.value) × (n.value ≤ 9999)

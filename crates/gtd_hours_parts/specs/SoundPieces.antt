@@ -1,7 +1,8 @@
 -- The numbers and times of a piece are in range.
 use Rattle.std.specs.Prelude.{List, [], ◌∷◌, Some, None, IfSome}
 use Rattle.gtd_hours.specs.Ranges.{IsMonth, IsWeekday}
-use Rattle.gtd_hours_parts.specs.Numbers.{IsPlaceNumber, IsStepNumber, IsWeekNumber, IsYearNumber}
+use Rattle.gtd_hours_parts.specs.Numbers.{IsOffsetNumber, IsPlaceNumber, IsStepNumber, IsWeekNumber, IsYearNumber}
+use Rattle.gtd_hours_parts.specs.declared.piece.Offset.{Offset}
 use Rattle.gtd_hours_parts.specs.declared.piece.Piece.{Piece}
 use Rattle.gtd_hours_parts.specs.declared.piece.Piece.TheVariants as piece
 use Rattle.gtd_hours_parts.specs.Pieces.{AreWrittenTimes, EndsRange, IsRange, IsWrittenDate}
@@ -20,6 +21,7 @@ IsPiece (piece.Weekdays first last) = IsWeekday first × IfSome last IsWeekday
 IsPiece (piece.Places k first None) = IsWeekday k × IsPlaceNumber first
 IsPiece (piece.Places k first (Some last)) = IsWeekday k × IsRange IsPlaceNumber first last
 IsPiece (piece.PlaceBack k n) = IsWeekday k × IsPlaceNumber n
+IsPiece (piece.PlacesEnd offset) = IfSome offset (λ (o : Offset). IsOffsetNumber o.days)
 IsPiece (piece.Times begin last) = AreWrittenTimes begin last
 IsPiece x = Unit {0}
 

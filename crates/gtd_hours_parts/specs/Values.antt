@@ -9,8 +9,10 @@ use Rattle.gtd_hours_parts.specs.declared.digits.Digits.{Digits}
 use Rattle.gtd_hours_parts.specs.Numbers.{last_of, step_of}
 use Rattle.gtd_hours_parts.specs.Dates.{last_year}
 use Rattle.gtd_hours_parts.specs.Times.{minute_of}
+use Rattle.gtd_hours_parts.specs.declared.days.Days.{Days}
 use Rattle.gtd_hours_parts.specs.declared.piece.LastDate.{LastDate}
 use Rattle.gtd_hours_parts.specs.declared.piece.LastDate.TheVariants as last_date
+use Rattle.gtd_hours_parts.specs.declared.piece.Offset.{Offset}
 use Rattle.gtd_hours_parts.specs.declared.piece.WrittenDate.{WrittenDate}
 use Rattle.gtd_hours_parts.specs.declared.piece.Piece.{Piece}
 use Rattle.gtd_hours_parts.specs.declared.piece.Piece.TheVariants as piece
@@ -75,6 +77,12 @@ IsSelector y x = ⊥
 abbrev pub IsWeekdayAt : ℕ → ℕ → WeekdayPlace → Type 0
 IsWeekdayAt weekday number x = (x.weekday ≡ weekday) × (x.number ≡ number)
 
+-- the days of an offset, if there is one
+abbrev pub AreDaysOf : Option Days → Option Offset → Type 0
+AreDaysOf None None = Unit {0}
+AreDaysOf (Some x) (Some o) = (x.is_before ≡ o.is_before) × (x.count ≡ o.days.value)
+AreDaysOf x o = ⊥
+
 -- the piece stands for this part
 abbrev pub IsPartOf : Part → Piece → Type 0
 IsPartOf (part.Rule l) (piece.Rule k) = l ≡ k
@@ -82,6 +90,7 @@ IsPartOf part.Kind piece.Kind = Unit {0}
 IsPartOf (part.Selector x) y = IsSelector y x
 IsPartOf (part.Places x z) (piece.Places weekday first last) =
     IsWeekdayAt weekday first.value x × IsWeekdayAt weekday (last_number first last) z
+IsPartOf (part.PlacesEnd x) (piece.PlacesEnd o) = AreDaysOf x o
 IsPartOf (part.Times x) (piece.Times begin last) = (x.begin ≡ minute_of begin) × (x.last ≡ minute_of last)
 IsPartOf part.Closed piece.Closed = Unit {0}
 IsPartOf x y = ⊥

@@ -7,16 +7,18 @@
 
 pub use clock::{ClockTime, times};
 pub use dates::{month_day, one_day, to_day, to_month_day, to_year_date, to_year_day, year_date};
+pub use days::{Days, days_of};
 pub use digits::Digits;
 pub use month_ends::{are_months_of_years, first_day_of, last_day_of};
 pub use part::{Part, part_of};
-pub use piece::{LastDate, Piece, WrittenDate};
+pub use piece::{LastDate, Offset, Piece, WrittenDate};
 pub use places::place;
 pub use ranges::{are_few_years, months, one_week, one_year, weekdays, weeks, years};
 pub use written_dates::{dates_of, is_day};
 
 mod clock;
 mod dates;
+mod days;
 mod digits;
 mod month_ends;
 mod part;

@@ -7,8 +7,9 @@ ghost use Rattle.gtd_hours_parts.specs.SoundPieces.{IsPiece};
 ghost use Rattle.gtd_hours_parts.specs.Values.{IsPartOf, IsSelector};
 
 use crate::clock::times;
+use crate::days::{Days, days_of};
 use crate::digits::Digits;
-use crate::piece::Piece;
+use crate::piece::{Offset, Piece};
 use crate::places::place;
 use crate::ranges::{months, one_week, one_year, weekdays, weeks, years};
 use crate::written_dates::dates_of;
@@ -30,6 +31,8 @@ pub enum Part {
         /// The last one, of the same weekday.
         last: WeekdayPlace,
     },
+    /// The places in brackets end, with these days from them.
+    PlacesEnd(Option<Days>),
     /// A range of times more.
     Times(TimeRange),
     /// The rule is closed.
@@ -134,6 +137,20 @@ fn places_of(weekday: u8, first: Digits, last: Option<Digits>) -> Option<Part>
     }
 }
 
+// `]`, `] -2 days`
+fn places_end_of(offset: Option<Offset>) -> Option<Part>
+    ensures kept { IfSome result (λ x. IsPartOf x (piece.PlacesEnd offset)) }
+    ensures accepted { IsSome result ↔ IsPiece (piece.PlacesEnd offset) }
+{
+    match offset {
+        None => Some(Part::PlacesEnd(None)),
+        Some(offset) => {
+            let days = days_of(offset)?;
+            Some(Part::PlacesEnd(Some(days)))
+        }
+    }
+}
+
 // A selector as a part.
 fn one(selector: Option<Selector>) -> Option<Part>
     ensures kept { (y : Piece) → IfSome selector (IsSelector y) → IfSome result (λ x. IsPartOf x y) }
@@ -164,6 +181,7 @@ pub fn part_of(piece: Piece) -> Option<Part>
             first,
             last,
         } => places_of(weekday, first, last),
+        Piece::PlacesEnd { offset } => places_end_of(offset),
         Piece::Times { begin, last } => match times(begin, last) {
             Some(range) => Some(Part::Times(range)),
             None => None,

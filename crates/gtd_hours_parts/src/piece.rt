@@ -24,6 +24,15 @@ pub enum LastDate {
     Date(WrittenDate),
 }
 
+/// Days after the places in brackets, or before them.
+#[derive(Clone, Copy)]
+pub struct Offset {
+    /// Whether the days are before the places.
+    pub is_before: bool,
+    /// How many days.
+    pub days: Digits,
+}
+
 /// A smallest part of a text of opening hours that says something by itself.
 #[derive(Clone, Copy)]
 pub enum Piece {
@@ -85,6 +94,11 @@ pub enum Piece {
         weekday: u8,
         /// The place: 1 is the last one.
         number: Digits,
+    },
+    /// `]`, `] -2 days`: the places in brackets end, all of which the offset moves
+    PlacesEnd {
+        /// The days behind the brackets.
+        offset: Option<Offset>,
     },
     /// `08:00-17:00`
     Times {

@@ -1,7 +1,7 @@
 -- Kinds in order are those of a rule that can be written.
 use Rattle.std.proofs.Common.{◌≡◌, ℕ, ◌+◌, ◌<◌, ◌≤◌, Bool, true, false, cond, List, [], ◌∷◌, ◌++◌}
 use Rattle.std.proofs.Common.{append_assoc, arith, inl, inr, refl, sym, ap, subst, ◌∙◌}
-use Rattle.std.specs.Prelude.{◌==◌, ◌&&◌}
+use Rattle.std.specs.Prelude.{◌==◌, ◌&&◌, nat_lt}
 use Rattle.std.specs.List.{list_all}
 use Rattle.std.proofs.lemmas.Bool.{cases_eq, eqb-true}
 use Rattle.std.proofs.lemmas.Bool.Decides.{nat_tests}
@@ -79,7 +79,7 @@ four_places (selector.Weeks x) = omega arith
 four_places (selector.Weekdays x) = omega arith
 four_places (selector.Nth x) = omega arith
 four_places (selector.NthBack x) = omega arith
-four_places (selector.Moved x) = omega arith
+four_places (selector.Moved x) = four_or_none (nat_lt 0 x.days) 4 (omega arith)
 four_places (selector.Moving x) = omega arith
 
 four_kinds : (xs : List Selector) → kind_place xs ≤ 4
@@ -106,24 +106,32 @@ all_such place such each (x ∷ xs) h =
     (each x (eqb-true (place_of x) place (left (place_of x == place) (have_place place xs) h)))
     (all_such place such each xs (right (place_of x == place) (have_place place xs) h))
 
+four_not : (b : Bool) (n : ℕ) → 0 < n → n < 4 → cond b 4 0 ≡ n → ⊥
+four_not true n low high e = omega (arith, low, high, e)
+four_not false n low high e = omega (arith, low, high, e)
+
 first_years : (x : Selector) → place_of x ≡ 1 → is_years x ≡ true
 first_years (selector.Years x) e = refl
+first_years (selector.Moved x) e = absurd (four_not (nat_lt 0 x.days) 1 (omega arith) (omega arith) e)
 first_years x e = absurd (omega (arith, e))
 
 second_month_days : (x : Selector) → place_of x ≡ 2 → is_month_days x ≡ true
 second_month_days (selector.Months x) e = refl
 second_month_days (selector.Dates x) e = refl
 second_month_days (selector.Dated x) e = refl
+second_month_days (selector.Moved x) e = absurd (four_not (nat_lt 0 x.days) 2 (omega arith) (omega arith) e)
 second_month_days x e = absurd (omega (arith, e))
 
 third_weeks : (x : Selector) → place_of x ≡ 3 → is_weeks x ≡ true
 third_weeks (selector.Weeks x) e = refl
+third_weeks (selector.Moved x) e = absurd (four_not (nat_lt 0 x.days) 3 (omega arith) (omega arith) e)
 third_weeks x e = absurd (omega (arith, e))
 
 fourth_weekdays : (x : Selector) → place_of x ≡ 4 → is_weekdays x ≡ true
 fourth_weekdays (selector.Weekdays x) e = refl
 fourth_weekdays (selector.Nth x) e = refl
 fourth_weekdays (selector.NthBack x) e = refl
+fourth_weekdays (selector.Moved x) e = (place_tested (nat_lt 0 x.days) 4 4 e (omega arith)).0
 fourth_weekdays x e = absurd (omega (arith, e))
 
 left_nested : (k a b c d : List (List Selector)) (e : List (List Selector)) → k ≡ a ++ (b ++ (c ++ (d ++ e))) → e ≡ []

@@ -1,5 +1,5 @@
 -- Kinds of selectors in the order in which they are written.
-use Rattle.std.specs.Prelude.{ℕ, ◌<◌, ◌==◌, ◌&&◌, Bool, true, List, [], ◌∷◌, if◌then◌else◌}
+use Rattle.std.specs.Prelude.{ℕ, ◌<◌, ◌==◌, ◌&&◌, Bool, true, List, [], ◌∷◌, if◌then◌else◌, nat_lt}
 use Rattle.gtd_hours.specs.declared.hours.Kind.{Kind}
 use Rattle.gtd_hours.specs.declared.hours.Selector.{Selector}
 use Rattle.gtd_hours.specs.declared.hours.Selector.TheVariants as selector
@@ -14,7 +14,7 @@ place_of (selector.Weeks x) = 3
 place_of (selector.Weekdays x) = 4
 place_of (selector.Nth x) = 4
 place_of (selector.NthBack x) = 4
-place_of (selector.Moved x) = 0
+place_of (selector.Moved x) = if nat_lt 0 x.days then 4 else 0
 place_of (selector.Moving x) = 0
 
 abbrev pub have_place : ℕ → List Selector → Bool

@@ -18,7 +18,7 @@ fn place_of(selector: Selector) -> u8
         Selector::Weekdays(_) => 4,
         Selector::Nth(_) => 4,
         Selector::NthBack(_) => 4,
-        Selector::Moved(_) => 0,
+        Selector::Moved(place) => { if 0 < place.days { 4 } else { 0 } }
         Selector::Moving(_) => 0,
     }
 }

@@ -16,20 +16,23 @@ use Rattle.gtd_hours.specs.declared.hours.Selector.{Selector}
 use Rattle.gtd_hours.specs.declared.hours.Selector.TheVariants as selector
 use Rattle.gtd_hours_parts.specs.Values.{AreDates, IsPartOf, IsSelector}
 use Rattle.gtd_hours_parts.specs.declared.digits.Digits.{Digits}
+use Rattle.gtd_hours_parts.specs.declared.days.Days.{Days}
 use Rattle.gtd_hours_parts.specs.declared.part.Part.{Part}
 use Rattle.gtd_hours_parts.specs.declared.part.Part.TheVariants as part
 use Rattle.gtd_hours_parts.specs.declared.piece.LastDate.{LastDate}
+use Rattle.gtd_hours_parts.specs.declared.piece.Offset.{Offset}
 use Rattle.gtd_hours_parts.specs.declared.piece.WrittenDate.{WrittenDate}
 use Rattle.gtd_hours.specs.declared.hours.TimeRange.{TimeRange}
 use Rattle.gtd_hours_parts.specs.declared.clock.ClockTime.{ClockTime}
 use Rattle.gtd_hours_parts.specs.declared.piece.Piece.{Piece}
 use Rattle.gtd_hours_parts.specs.declared.piece.Piece.TheVariants as piece
 use Rattle.gtd_hours_text.specs.declared.draft.Draft.{Draft}
-use Rattle.gtd_hours_text.specs.Adding.{AddsPlaces, AddsSelectors, AddsTimes}
-use Rattle.gtd_hours_text.specs.Drafts.{IsAdded}
+use Rattle.gtd_hours_text.specs.Adding.{AddsMoved, AddsPlaces, AddsSelectors, AddsTimes}
+use Rattle.gtd_hours_text.specs.Drafts.{AreWeekdays, IsAdded}
 use Rattle.gtd_hours_text.specs.Standing.{AllSelectors, AllTimes, ArePlaces, AreSelectors, begins_rule, is_closed, is_one_rule}
-use Rattle.gtd_hours_text.specs.Standing.{names_month_days, names_times, names_weekdays, names_weeks, names_years}
-use Rattle.gtd_hours_text.proofs.DraftLemmas.{kept, left, selectors_more, times_more}
+use Rattle.gtd_hours_text.specs.Standing.{AreMoved, names_month_days, names_times, names_weekdays, names_weeks}
+use Rattle.gtd_hours_text.specs.Standing.{names_years, offset_in}
+use Rattle.gtd_hours_text.proofs.DraftLemmas.{kept, left, selectors_more, times_more, weekdays_end, weekdays_more}
 
 -- a list has the selectors of the piece behind it, or nothing more
 abbrev pub Grown : Bool → Piece → List Selector → List Selector → Type 0
@@ -85,11 +88,29 @@ one_more [] x e f = refl
 one_more (piece.Rule l ∷ p) x e f = absurd cc
 one_more (y ∷ p) x e f = one_more p x e f
 
+-- the weekdays of the pieces, and of one piece more
+abbrev pub GrownWeekdays : Piece → Draft → Draft → Type 0
+GrownWeekdays x draft then =
+    (p : List Piece) → AreWeekdays (filter names_weekdays p) draft.weekdays.items draft.unmoved.items
+    → AreWeekdays (filter names_weekdays (p ++ x ∷ [])) then.weekdays.items then.unmoved.items
+
+no_weekday : (x : Piece) (ws us : List Selector) → names_weekdays x ≡ false → (p : List Piece)
+    → AreWeekdays (filter names_weekdays p) ws us → AreWeekdays (filter names_weekdays (p ++ x ∷ [])) ws us
+no_weekday x ws us e p are = subst (λ (l : List Piece). AreWeekdays l ws us) (sym (left names_weekdays p x e)) are
+
+some_weekdays : (x : Piece) (ws us after : List Selector) → names_weekdays x ≡ true
+    → ((rest : List Piece) → offset_in (x ∷ rest) ≡ offset_in rest) → AddsSelectors us x after → (p : List Piece)
+    → AreWeekdays (filter names_weekdays p) ws us → AreWeekdays (filter names_weekdays (p ++ x ∷ [])) ws after
+some_weekdays x ws us after e through adds p are =
+    subst (λ (l : List Selector). AreWeekdays (filter names_weekdays (p ++ x ∷ [])) ws l) (sym adds.all)
+    (subst (λ (l : List Piece). AreWeekdays l ws (us ++ adds.xs)) (sym (kept names_weekdays p x e))
+    (weekdays_more (filter names_weekdays p) x ws us adds.xs through are adds.are))
+
 pub added : (draft : Draft) (x : Piece) (then : Draft) → begins_rule x ≡ false
     → Grown (names_years x) x draft.years.items then.years.items
     → Grown (names_month_days x) x draft.month_days.items then.month_days.items
     → Grown (names_weeks x) x draft.weeks.items then.weeks.items
-    → Grown (names_weekdays x) x draft.weekdays.items then.weekdays.items
+    → GrownWeekdays x draft then
     → GrownTimes x draft.times.items then.times.items → then.closed ≡ closed_by (closes x) draft.closed
     → then.link ≡ draft.link → IsAdded draft x then
 added draft x then inside years month_days weeks weekdays times closed same = record {
@@ -98,7 +119,7 @@ added draft x then inside years month_days weeks weekdays times closed same = re
     month_days =
         grow names_month_days p x draft.month_days.items then.month_days.items (names_month_days x) refl is.month_days month_days;
     weeks = grow names_weeks p x draft.weeks.items then.weeks.items (names_weeks x) refl is.weeks weeks;
-    weekdays = grow names_weekdays p x draft.weekdays.items then.weekdays.items (names_weekdays x) refl is.weekdays weekdays;
+    weekdays = weekdays p is.weekdays;
     times = grow_times p x draft.times.items then.times.items is.times times;
     closed = closed ∙ ap (closed_by (closes x)) is.closed ∙ sym (closed_more p x);
     one = one_more p x is.one inside;
@@ -113,6 +134,7 @@ with_years draft years = record {
   month_days = draft.month_days;
   weeks = draft.weeks;
   weekdays = draft.weekdays;
+  unmoved = draft.unmoved;
   times = draft.times;
   closed = draft.closed;
 }
@@ -120,7 +142,8 @@ with_years draft years = record {
 pub years_added : (draft : Draft) (x : Piece) (years : Vec Selector Global) → names_years x ≡ true
     → AddsSelectors draft.years.items x years.items → IsAdded draft x (with_years draft years)
 years_added draft (piece.Years a b d) v e adds =
-    added draft (piece.Years a b d) (with_years draft v) refl adds refl refl refl refl refl refl
+    added draft (piece.Years a b d) (with_years draft v) refl adds refl refl
+    (no_weekday (piece.Years a b d) draft.weekdays.items draft.unmoved.items refl) refl refl refl
 years_added draft x v e adds = absurd cc
 
 abbrev with_month_days : Draft → Vec Selector Global → Draft
@@ -130,6 +153,7 @@ with_month_days draft month_days = record {
   month_days = month_days;
   weeks = draft.weeks;
   weekdays = draft.weekdays;
+  unmoved = draft.unmoved;
   times = draft.times;
   closed = draft.closed;
 }
@@ -137,9 +161,11 @@ with_month_days draft month_days = record {
 pub month_days_added : (draft : Draft) (x : Piece) (month_days : Vec Selector Global) → names_month_days x ≡ true
     → AddsSelectors draft.month_days.items x month_days.items → IsAdded draft x (with_month_days draft month_days)
 month_days_added draft (piece.Months a b) v e adds =
-    added draft (piece.Months a b) (with_month_days draft v) refl refl adds refl refl refl refl refl
+    added draft (piece.Months a b) (with_month_days draft v) refl refl adds refl
+    (no_weekday (piece.Months a b) draft.weekdays.items draft.unmoved.items refl) refl refl refl
 month_days_added draft (piece.Dates a b) v e adds =
-    added draft (piece.Dates a b) (with_month_days draft v) refl refl adds refl refl refl refl refl
+    added draft (piece.Dates a b) (with_month_days draft v) refl refl adds refl
+    (no_weekday (piece.Dates a b) draft.weekdays.items draft.unmoved.items refl) refl refl refl
 month_days_added draft x v e adds = absurd cc
 
 abbrev with_weeks : Draft → Vec Selector Global → Draft
@@ -149,6 +175,7 @@ with_weeks draft weeks = record {
   month_days = draft.month_days;
   weeks = weeks;
   weekdays = draft.weekdays;
+  unmoved = draft.unmoved;
   times = draft.times;
   closed = draft.closed;
 }
@@ -156,29 +183,75 @@ with_weeks draft weeks = record {
 pub weeks_added : (draft : Draft) (x : Piece) (weeks : Vec Selector Global) → names_weeks x ≡ true
     → AddsSelectors draft.weeks.items x weeks.items → IsAdded draft x (with_weeks draft weeks)
 weeks_added draft (piece.Weeks a b d) v e adds =
-    added draft (piece.Weeks a b d) (with_weeks draft v) refl refl refl adds refl refl refl refl
+    added draft (piece.Weeks a b d) (with_weeks draft v) refl refl refl adds
+    (no_weekday (piece.Weeks a b d) draft.weekdays.items draft.unmoved.items refl) refl refl refl
 weeks_added draft x v e adds = absurd cc
 
-abbrev with_weekdays : Draft → Vec Selector Global → Draft
-with_weekdays draft weekdays = record {
+abbrev with_unmoved : Draft → Vec Selector Global → Draft
+with_unmoved draft unmoved = record {
+  link = draft.link;
+  years = draft.years;
+  month_days = draft.month_days;
+  weeks = draft.weeks;
+  weekdays = draft.weekdays;
+  unmoved = unmoved;
+  times = draft.times;
+  closed = draft.closed;
+}
+
+-- brackets end with another offset than those before them
+abbrev one_day : Offset
+one_day = record { is_before = false; days = record { value = 1; count = 1 } }
+
+two_offsets : (o : Option Offset) → ((p : Option Offset) → o ≡ p) → ⊥
+two_offsets o same =
+    let both : None ≡ Some one_day = sym (same None) ∙ same (Some one_day) in
+    cc
+
+pub weekdays_added : (draft : Draft) (x : Piece) (unmoved : Vec Selector Global) → names_weekdays x ≡ true
+    → ((rest : List Piece) → offset_in (x ∷ rest) ≡ offset_in rest) → AddsSelectors draft.unmoved.items x unmoved.items
+    → IsAdded draft x (with_unmoved draft unmoved)
+weekdays_added draft (piece.Weekdays a b) v e through adds =
+    added draft (piece.Weekdays a b) (with_unmoved draft v) refl refl refl refl
+    (some_weekdays (piece.Weekdays a b) draft.weekdays.items draft.unmoved.items v.items refl through adds) refl refl refl
+weekdays_added draft (piece.Places k a b) v e through adds =
+    added draft (piece.Places k a b) (with_unmoved draft v) refl refl refl refl
+    (some_weekdays (piece.Places k a b) draft.weekdays.items draft.unmoved.items v.items refl through adds) refl refl refl
+weekdays_added draft (piece.PlaceBack k a) v e through adds =
+    added draft (piece.PlaceBack k a) (with_unmoved draft v) refl refl refl refl
+    (some_weekdays (piece.PlaceBack k a) draft.weekdays.items draft.unmoved.items v.items refl through adds) refl refl refl
+weekdays_added draft (piece.PlacesEnd o) v e through adds = absurd (two_offsets o (λ other. through (piece.PlacesEnd other ∷ [])))
+weekdays_added draft x v e through adds = absurd cc
+
+-- the draft behind brackets
+abbrev with_ended : Draft → Vec Selector Global → Vec Selector Global → Draft
+with_ended draft weekdays unmoved = record {
   link = draft.link;
   years = draft.years;
   month_days = draft.month_days;
   weeks = draft.weeks;
   weekdays = weekdays;
+  unmoved = unmoved;
   times = draft.times;
   closed = draft.closed;
 }
 
-pub weekdays_added : (draft : Draft) (x : Piece) (weekdays : Vec Selector Global) → names_weekdays x ≡ true
-    → AddsSelectors draft.weekdays.items x weekdays.items → IsAdded draft x (with_weekdays draft weekdays)
-weekdays_added draft (piece.Weekdays a b) v e adds =
-    added draft (piece.Weekdays a b) (with_weekdays draft v) refl refl refl refl adds refl refl refl
-weekdays_added draft (piece.Places k a b) v e adds =
-    added draft (piece.Places k a b) (with_weekdays draft v) refl refl refl refl adds refl refl refl
-weekdays_added draft (piece.PlaceBack k a) v e adds =
-    added draft (piece.PlaceBack k a) (with_weekdays draft v) refl refl refl refl adds refl refl refl
-weekdays_added draft x v e adds = absurd cc
+end_weekdays : (o : Option Offset) (ws us after vs xs : List Selector) → after ≡ ws ++ xs → AreMoved o us xs → vs ≡ []
+    → (p : List Piece) → AreWeekdays (filter names_weekdays p) ws us
+    → AreWeekdays (filter names_weekdays (p ++ piece.PlacesEnd o ∷ [])) after vs
+end_weekdays o ws us after vs xs all moved none p are =
+    subst (λ (l : List Selector). AreWeekdays (filter names_weekdays (p ++ piece.PlacesEnd o ∷ [])) l vs) (sym all)
+    (subst (λ (l : List Piece). AreWeekdays l (ws ++ xs) vs) (sym (kept names_weekdays p (piece.PlacesEnd o) refl))
+    (weekdays_end (filter names_weekdays p) o ws us xs vs are moved none))
+
+pub end_added : (draft : Draft) (days : Option Days) (weekdays unmoved : Vec Selector Global)
+    → AddsMoved days draft.weekdays.items draft.unmoved.items weekdays.items → unmoved.items ≡ [] → (y : Piece)
+    → IsPartOf (part.PlacesEnd days) y → IsAdded draft y (with_ended draft weekdays unmoved)
+end_added draft days weekdays unmoved adds none (piece.PlacesEnd o) is =
+    added draft (piece.PlacesEnd o) (with_ended draft weekdays unmoved) refl refl refl refl
+    (end_weekdays o draft.weekdays.items draft.unmoved.items weekdays.items unmoved.items adds.xs adds.all (adds.are o is) none)
+    refl refl refl
+end_added draft days weekdays unmoved adds none y is = absurd is
 
 abbrev with_times : Draft → Vec TimeRange Global → Draft
 with_times draft times = record {
@@ -187,6 +260,7 @@ with_times draft times = record {
   month_days = draft.month_days;
   weeks = draft.weeks;
   weekdays = draft.weekdays;
+  unmoved = draft.unmoved;
   times = times;
   closed = draft.closed;
 }
@@ -194,7 +268,8 @@ with_times draft times = record {
 pub times_added : (draft : Draft) (b l : ClockTime) (times : Vec TimeRange Global) → AddsTimes draft.times.items b l times.items
     → IsAdded draft (piece.Times b l) (with_times draft times)
 times_added draft b l times adds =
-    added draft (piece.Times b l) (with_times draft times) refl refl refl refl refl adds refl refl
+    added draft (piece.Times b l) (with_times draft times) refl refl refl refl
+    (no_weekday (piece.Times b l) draft.weekdays.items draft.unmoved.items refl) adds refl refl
 
 abbrev now_closed : Draft → Draft
 now_closed draft = record {
@@ -203,26 +278,37 @@ now_closed draft = record {
   month_days = draft.month_days;
   weeks = draft.weeks;
   weekdays = draft.weekdays;
+  unmoved = draft.unmoved;
   times = draft.times;
   closed = true;
 }
 
 closed_added : (draft : Draft) → IsAdded draft piece.Closed (now_closed draft)
-closed_added draft = added draft piece.Closed (now_closed draft) refl refl refl refl refl refl refl refl
+closed_added draft =
+    added draft piece.Closed (now_closed draft) refl refl refl refl
+    (no_weekday piece.Closed draft.weekdays.items draft.unmoved.items refl) refl refl refl
 
 kind_added : (draft : Draft) → IsAdded draft piece.Kind draft
-kind_added draft = added draft piece.Kind draft refl refl refl refl refl refl refl refl
+kind_added draft =
+    added draft piece.Kind draft refl refl refl refl
+    (no_weekday piece.Kind draft.weekdays.items draft.unmoved.items refl) refl refl refl
 
 -- ---- what a part stands for
 
 -- a piece that is one selector is no more than that
 alone : (y : Piece) (x : Selector) → IsSelector y x → AreSelectors y (x ∷ [])
 alone (piece.Places k a b) x is = absurd is
+alone (piece.PlacesEnd o) x is = absurd is
 alone y x is = is
 
 pub one_selector : (before after : List Selector) (y : Piece) (x : Selector) → after ≡ before ++ x ∷ [] → IsSelector y x
     → AddsSelectors before y after
 one_selector before after y x all is = record { xs = x ∷ []; all = all; are = alone y x is }
+
+-- it ends no brackets
+pub no_end : (y : Piece) (x : Selector) → IsSelector y x → (rest : List Piece) → offset_in (y ∷ rest) ≡ offset_in rest
+no_end (piece.PlacesEnd o) x is rest = absurd is
+no_end y x is rest = refl
 
 -- which list a selector is put into
 abbrev names_of : Selector → Piece → Bool
@@ -262,12 +348,12 @@ of_kind names draft x (Ok then) same h = λ y is. h y (sym (same y) ∙ named y 
 of_kind names draft x (Err e) same h = record {}
 
 pub places_added : (draft : Draft) (x z : WeekdayPlace) (v : Vec Selector Global)
-    → AddsPlaces draft.weekdays.items x.weekday x.number z.number v.items → (y : Piece) → IsPartOf (part.Places x z) y
-    → IsAdded draft y (with_weekdays draft v)
+    → AddsPlaces draft.unmoved.items x.weekday x.number z.number v.items → (y : Piece) → IsPartOf (part.Places x z) y
+    → IsAdded draft y (with_unmoved draft v)
 places_added draft x z v adds (piece.Places k a b) is =
     let one = subst (λ (n : ℕ). ArePlaces n x.number z.number adds.xs) is.0.0 adds.are in
     let two = subst (λ (n : ℕ). ArePlaces k n z.number adds.xs) is.0.1 one in
-    weekdays_added draft (piece.Places k a b) v refl (record {
+    weekdays_added draft (piece.Places k a b) v refl (λ rest. refl) (record {
       xs = adds.xs;
       all = adds.all;
       are = subst (λ (n : ℕ). ArePlaces k a.value n adds.xs) is.1.1 two;
@@ -299,6 +385,7 @@ no_rule part.Kind piece.Kind none is = refl
 no_rule (part.Selector x) (piece.Rule l) none is = absurd is
 no_rule (part.Selector x) y none is = refl
 no_rule (part.Places x z) (piece.Places k a b) none is = refl
+no_rule (part.PlacesEnd x) (piece.PlacesEnd o) none is = refl
 no_rule (part.Times x) (piece.Times b l) none is = refl
 no_rule part.Closed piece.Closed none is = refl
 no_rule x y none is = absurd is

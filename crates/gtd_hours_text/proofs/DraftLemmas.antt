@@ -1,5 +1,6 @@
 -- Drafts of rules.
 use Rattle.std.proofs.Common.{◌≡◌, Bool, true, false, cond, List, [], ◌∷◌, ◌++◌, length, refl, sym, ap, subst, ◌∙◌, append_assoc}
+use Rattle.std.proofs.Common.{Option, None}
 use Rattle.std.specs.Prelude.{◌==◌}
 use Rattle.std.specs.List.{filter}
 use Rattle.std.proofs.lemmas.List.{append-nil}
@@ -9,33 +10,105 @@ use Rattle.gtd_hours.specs.declared.hours.Rule.{Rule}
 use Rattle.gtd_hours.specs.declared.hours.Selector.{Selector}
 use Rattle.gtd_hours.specs.declared.hours.TimeRange.{TimeRange}
 use Rattle.gtd_hours_parts.specs.declared.clock.ClockTime.{ClockTime}
+use Rattle.gtd_hours_parts.specs.declared.piece.Offset.{Offset}
 use Rattle.gtd_hours_parts.specs.declared.piece.Piece.{Piece}
 use Rattle.gtd_hours_parts.specs.declared.piece.Piece.TheVariants as piece
 use Rattle.gtd_hours_text.specs.declared.draft.Draft.{Draft}
-use Rattle.gtd_hours_text.specs.Drafts.{IsDraft}
+use Rattle.gtd_hours_text.specs.Adding.{AddsMoved}
+use Rattle.gtd_hours_text.specs.Drafts.{AreWeekdays, IsDraft}
 use Rattle.gtd_hours_text.specs.Standing.{AllSelectors, AllTimes, AreSelectors, IsRule}
-use Rattle.gtd_hours_text.specs.Standing.{kind_if, modifier_of, names_times}
+use Rattle.gtd_hours_text.specs.Standing.{AllWeekdays, AreMoved, kind_if, modifier_of, names_times, names_weekdays, offset_in}
 use Rattle.gtd_hours_text.specs.Standing.{selectors}
 
 pub no_times : (xs : List TimeRange) → xs ≡ [] → AllTimes [] xs
 no_times [] e = record {}
 no_times (x ∷ xs) e = absurd cc
 
+-- ---- weekdays
+
+-- all weekdays of a draft, where no offset follows
+all_weekdays : (p : List Piece) (xs us all : List Selector) → AreWeekdays p xs us → AddsMoved None xs us all → AllWeekdays p all
+all_weekdays p xs us all are moved =
+    subst (λ (l : List Selector). AllWeekdays p l)
+    (ap (λ (l : List Selector). xs ++ l) (append-nil moved.xs) ∙ sym moved.all)
+    (subst (λ (l : List Piece). AllWeekdays l (xs ++ (moved.xs ++ []))) (append-nil p)
+    (are [] moved.xs [] (moved.are None (record {})) (AllWeekdays.none [] [] refl refl)))
+
+pub no_weekdays : (xs us : List Selector) → xs ≡ [] → us ≡ [] → AreWeekdays [] xs us
+no_weekdays [] [] e f = λ rest xs ys moved all. nothing_moved (offset_in rest) rest xs ys moved all
+  where
+    nothing_moved : (o : Option Offset) (rest : List Piece) (xs ys : List Selector) → AreMoved o [] xs → AllWeekdays rest ys
+        → AllWeekdays rest (xs ++ ys)
+    nothing_moved o rest [] ys moved all = all
+    nothing_moved o rest (x ∷ xs) ys moved all = absurd moved
+no_weekdays (x ∷ xs) us e f = absurd cc
+no_weekdays [] (u ∷ us) e f = absurd cc
+
+record Split (o : Option Offset) (us vs xs : List Selector) : Type 0 where
+  fs : List Selector
+  bs : List Selector
+  whole : xs ≡ fs ++ bs
+  one : AreMoved o us fs
+  other : AreMoved o vs bs
+
+split : (o : Option Offset) (us vs xs : List Selector) → AreMoved o (us ++ vs) xs → Split o us vs xs
+split o [] vs xs h = record { fs = []; bs = xs; whole = refl; one = record {}; other = h }
+split o (u ∷ us) vs (x ∷ xs) h =
+    let more = split o us vs xs h.1 in
+    record {
+      fs = x ∷ more.fs;
+      bs = more.bs;
+      whole = ap (λ (l : List Selector). x ∷ l) more.whole;
+      one = (h.0, more.one);
+      other = more.other;
+    }
+split o (u ∷ us) vs [] h = absurd h
+
+-- a weekday or places more, which an offset behind them may move
+pub weekdays_more : (p : List Piece) (y : Piece) (ws us vs : List Selector)
+    → ((rest : List Piece) → offset_in (y ∷ rest) ≡ offset_in rest) → AreWeekdays p ws us → AreSelectors y vs
+    → AreWeekdays (p ++ y ∷ []) ws (us ++ vs)
+weekdays_more p y ws us vs through are is = λ rest xs ys moved all.
+    let s = split (offset_in rest) us vs xs moved in
+    let here = subst (λ (o : Option Offset). AreMoved o us s.fs) (sym (through rest)) s.one in
+    let later = AllWeekdays.more y (y ∷ rest) rest vs s.bs ys (s.bs ++ ys) refl refl is s.other all in
+    let whole = are (y ∷ rest) s.fs (s.bs ++ ys) here later in
+    subst (λ (l : List Selector). AllWeekdays ((p ++ y ∷ []) ++ rest) (ws ++ l))
+    (sym (append_assoc s.fs s.bs ys) ∙ ap (λ (l : List Selector). l ++ ys) (sym s.whole))
+    (subst (λ (l : List Piece). AllWeekdays l (ws ++ (s.fs ++ (s.bs ++ ys)))) (sym (append_assoc p (y ∷ []) rest)) whole)
+
+-- brackets end, and their offset moves the places in them
+pub weekdays_end : (p : List Piece) (o : Option Offset) (ws us xs vs : List Selector) → AreWeekdays p ws us
+    → AreMoved o us xs → vs ≡ [] → AreWeekdays (p ++ piece.PlacesEnd o ∷ []) (ws ++ xs) vs
+weekdays_end p o ws us xs [] are moved e = λ rest none ys no_more all.
+    let y = piece.PlacesEnd o in
+    let later = AllWeekdays.more y (y ∷ rest) rest [] [] ys ys refl refl refl (record {}) all in
+    let whole = are (y ∷ rest) xs ys moved later in
+    subst (λ (l : List Selector). AllWeekdays ((p ++ y ∷ []) ++ rest) l)
+    (sym (append_assoc ws xs ys) ∙ ap (λ (l : List Selector). (ws ++ xs) ++ l) (nothing (offset_in rest) none ys no_more))
+    (subst (λ (l : List Piece). AllWeekdays l (ws ++ (xs ++ ys))) (sym (append_assoc p (y ∷ []) rest)) whole)
+  where
+    nothing : (o : Option Offset) (none ys : List Selector) → AreMoved o [] none → ys ≡ none ++ ys
+    nothing o [] ys h = refl
+    nothing o (x ∷ none) ys h = absurd h
+weekdays_end p o ws us xs (v ∷ vs) are moved e = absurd cc
+
 -- ---- the rule of a draft
 
-pub ruled : (p : List Piece) (draft : Draft) (rule : Rule) → IsDraft p draft → rule.link ≡ draft.link
+pub ruled : (p : List Piece) (draft : Draft) (rule : Rule) (weekdays : List Selector)
+    → AddsMoved None draft.weekdays.items draft.unmoved.items weekdays → IsDraft p draft → rule.link ≡ draft.link
     → selectors rule.kinds.items
-    ≡ kind_if draft.years.items ++ kind_if draft.month_days.items ++ kind_if draft.weeks.items ++ kind_if draft.weekdays.items
+    ≡ kind_if draft.years.items ++ kind_if draft.month_days.items ++ kind_if draft.weeks.items ++ kind_if weekdays
     → rule.times ≡ draft.times → rule.modifier ≡ modifier_of draft.closed → IsRule draft.link p rule
-ruled p draft rule is l kinds times modifier = record {
+ruled p draft rule weekdays moved is l kinds times modifier = record {
   years = draft.years.items;
   month_days = draft.month_days.items;
   weeks = draft.weeks.items;
-  weekdays = draft.weekdays.items;
+  weekdays = weekdays;
   are_years = is.years;
   are_month_days = is.month_days;
   are_weeks = is.weeks;
-  are_weekdays = is.weekdays;
+  are_weekdays = all_weekdays (filter names_weekdays p) draft.weekdays.items draft.unmoved.items weekdays is.weekdays moved;
   kinds = kinds;
   times = subst (λ t. AllTimes (filter names_times p) t.items) (sym times) is.times;
   modifier = modifier ∙ ap modifier_of is.closed;

@@ -1,28 +1,31 @@
 -- Pieces with numbers in range are selectors and times.
 use Rattle.std.proofs.Common.{◌≡◌, ℕ, zero, suc, ◌+◌, ◌*◌, ◌<◌, ◌≤◌, Bool, true, false, cond, List, [], ◌∷◌, ◌++◌, length}
 use Rattle.std.proofs.Common.{inl, inr, ℤ, pos, Option, Some, None, refl, sym, ap, subst, arith, length-append}
-use Rattle.std.specs.Prelude.{◌≤ℤ◌, ◌<ℤ◌, ◌+ℤ◌}
+use Rattle.std.specs.Prelude.{◌≤ℤ◌, ◌<ℤ◌, ◌+ℤ◌, ◌⊎◌, IfSome}
 use Rattle.std.specs.List.{filter}
 use Rattle.std.proofs.lemmas.Bool.{cases_lt}
 use Rattle.std.proofs.lemmas.Int.{ints}
 use Rattle.gtd_hours.specs.Calendar.{day_number}
-use Rattle.gtd_hours.specs.Ranges.{IsWeekday}
+use Rattle.gtd_hours.specs.Ranges.{IsMovable, IsWeekday}
 use Rattle.gtd_hours.specs.declared.hours.MonthDay.{MonthDay}
 use Rattle.gtd_hours.specs.declared.hours.Selector.{Selector}
 use Rattle.gtd_hours.specs.declared.hours.Selector.TheVariants as selector
 use Rattle.gtd_hours.specs.declared.hours.TimeRange.{TimeRange}
 use Rattle.gtd_hours.specs.declared.hours.YearDate.{YearDate}
 use Rattle.gtd_hours_parts.specs.Dates.{EndsOn, IsDayOfYear, IsWrittenDay, last_year}
+use Rattle.gtd_hours_parts.specs.Numbers.{IsOffsetNumber}
 use Rattle.gtd_hours_parts.specs.Times.{minute_of}
 use Rattle.gtd_hours_parts.specs.declared.digits.Digits.{Digits}
 use Rattle.gtd_hours_parts.specs.Pieces.{IsDay, IsLastDay}
 use Rattle.gtd_hours_parts.specs.SoundPieces.{ArePieces, IsPiece}
 use Rattle.gtd_hours_parts.specs.declared.piece.LastDate.{LastDate}
 use Rattle.gtd_hours_parts.specs.declared.piece.LastDate.TheVariants as last_date
+use Rattle.gtd_hours_parts.specs.declared.piece.Offset.{Offset}
 use Rattle.gtd_hours_parts.specs.declared.piece.Piece.{Piece}
 use Rattle.gtd_hours_parts.specs.declared.piece.Piece.TheVariants as piece
 use Rattle.gtd_hours_parts.specs.declared.piece.WrittenDate.{WrittenDate}
-use Rattle.gtd_hours_text.specs.Standing.{AllSelectors, AllTimes, AreDates, ArePlaces, AreSelectors, names_month_days}
+use Rattle.gtd_hours_text.specs.Standing.{AllSelectors, AllTimes, AllWeekdays, AreDates, AreMoved, ArePlaces, AreSelectors}
+use Rattle.gtd_hours_text.specs.Standing.{CanMove, IsMoved, names_month_days, offset_in}
 use Rattle.gtd_hours_text.specs.Standing.{names_times, names_weekdays, names_weeks, names_years, year_or}
 
 -- the selectors that a piece is, at most five
@@ -223,6 +226,7 @@ weekdays_of (piece.Places k a (Some b)) e h =
 weekdays_of (piece.PlaceBack k n) e h =
     one (piece.PlaceBack k n) (selector.NthBack (record { weekday = k; number = n.value; in_range = (h.0, h.1.1, h.1.2) }))
     (refl, refl)
+weekdays_of (piece.PlacesEnd o) e h = record { xs = []; are = refl; few = omega arith }
 weekdays_of x e h = absurd cc
 
 -- ---- all pieces of a kind
@@ -270,8 +274,117 @@ all_month_days = all_of names_month_days month_days_of
 pub all_weeks : (p : List Piece) → ArePieces p → Several names_weeks p
 all_weeks = all_of names_weeks weeks_of
 
-pub all_weekdays : (p : List Piece) → ArePieces p → Several names_weekdays p
-all_weekdays = all_of names_weekdays weekdays_of
+-- ---- weekdays, as offsets move them
+
+-- whether an offset moves a place
+front_movable : (o : Offset) (n : ℕ) → IsOffsetNumber o.days → CanMove o false n ⊎ (CanMove o false n → ⊥)
+front_movable o n is = elim (cases_lt 4 n) [
+  | inl late ↦ inr (λ h. omega (arith, late, h.1.0))
+  | inr early ↦ inl (is.2, (early, is.3, λ e. is.2, λ e f. absurd cc))
+]
+
+back_by : (before : Bool) (days n : ℕ) → 1 ≤ days → days ≤ 27
+    → ((1 ≤ days) × IsMovable n true days before) ⊎ ((1 ≤ days) × IsMovable n true days before → ⊥)
+back_by true days n some few = elim (cases_lt 28 (7 * n + days)) [
+  | inl far ↦ inr (λ h. let near = h.1.3 refl refl in omega (arith, far, near))
+  | inr near ↦ inl (some, (omega (arith, near, some), few, λ e. some, λ e f. near))
+]
+back_by false days n some few = elim (cases_lt 4 n) [
+  | inl late ↦ inr (λ h. omega (arith, late, h.1.0))
+  | inr early ↦ inl (some, (early, few, λ e. some, λ e f. absurd cc))
+]
+
+back_movable : (o : Offset) (n : ℕ) → IsOffsetNumber o.days → CanMove o true n ⊎ (CanMove o true n → ⊥)
+back_movable o n is = back_by o.is_before o.days.value n is.2 is.3
+
+abbrev Moves : Option Offset → Selector → Type 0
+Moves o x = (y : Selector) × IsMoved o x y
+
+moves : (o : Option Offset) (x : Selector) → IfSome o (λ (p : Offset). IsOffsetNumber p.days) → Moves o x
+moves (Some o) (selector.Nth x) is = elim (front_movable o x.number is) [
+  | inl can ↦ (
+    selector.Moved (record {
+      place = x;
+      is_back = false;
+      days = o.days.value;
+      is_before = o.is_before;
+      in_range = can.1;
+    }),
+    (can.0, refl, refl, refl, refl),
+  )
+  | inr never ↦ (selector.Nth x, (refl, never))
+]
+moves (Some o) (selector.NthBack x) is = elim (back_movable o x.number is) [
+  | inl can ↦ (
+    selector.Moved (record {
+      place = x;
+      is_back = true;
+      days = o.days.value;
+      is_before = o.is_before;
+      in_range = can.1;
+    }),
+    (can.0, refl, refl, refl, refl),
+  )
+  | inr never ↦ (selector.NthBack x, (refl, never))
+]
+moves (Some o) x is = (x, refl)
+moves None x is = (x, refl)
+
+record MovesAll (o : Option Offset) (us : List Selector) : Type 0 where
+  xs : List Selector
+  are : AreMoved o us xs
+  few : length xs ≤ length us
+
+moves_all : (o : Option Offset) (us : List Selector) → IfSome o (λ (p : Offset). IsOffsetNumber p.days) → MovesAll o us
+moves_all o [] is = record { xs = []; are = record {}; few = omega arith }
+moves_all o (u ∷ us) is =
+    let one = moves o u is in
+    let more = moves_all o us is in
+    record { xs = one.0 ∷ more.xs; are = (one.1, more.are); few = (let few = more.few in omega (arith, few)) }
+
+-- the offset in pieces is in range
+offset_sound : (p : List Piece) → ArePieces p
+    → IfSome (offset_in (filter names_weekdays p)) (λ (o : Offset). IsOffsetNumber o.days)
+offset_sound [] are = record {}
+offset_sound (piece.PlacesEnd o ∷ p) are = are.0
+offset_sound (piece.Weekdays k l ∷ p) are = offset_sound p are.1
+offset_sound (piece.Places k a b ∷ p) are = offset_sound p are.1
+offset_sound (piece.PlaceBack k n ∷ p) are = offset_sound p are.1
+offset_sound (x ∷ p) are = offset_sound p are.1
+
+pub record SomeWeekdays (p : List Piece) : Type 0 where
+  pub xs : List Selector
+  pub are : AllWeekdays (filter names_weekdays p) xs
+  pub few : length xs ≤ 5 * length p
+
+add_weekday : (x : Piece) (p : List Piece) (b : Bool) → names_weekdays x ≡ b → IsPiece x → ArePieces p → SomeWeekdays p
+    → SomeWeekdays (x ∷ p)
+add_weekday x p true e is are more =
+    let first = weekdays_of x e is in
+    let moved = moves_all (offset_in (filter names_weekdays p)) first.xs (offset_sound p are) in
+    record {
+      xs = moved.xs ++ more.xs;
+      are = subst (λ (l : List Piece). AllWeekdays l (moved.xs ++ more.xs))
+          (ap (λ (b : Bool). cond b (x ∷ filter names_weekdays p) (filter names_weekdays p)) (sym e))
+          (AllWeekdays.more x (x ∷ filter names_weekdays p) (filter names_weekdays p) first.xs moved.xs more.xs
+          (moved.xs ++ more.xs) refl refl first.are moved.are more.are);
+      few = (
+          let a = first.few in
+          let b = more.few in
+          let c = moved.few in
+          omega (arith, a, b, c, length-append moved.xs more.xs)
+          );
+    }
+add_weekday x p false e is are more = record {
+  xs = more.xs;
+  are = subst (λ (l : List Piece). AllWeekdays l more.xs)
+      (ap (λ (b : Bool). cond b (x ∷ filter names_weekdays p) (filter names_weekdays p)) (sym e)) more.are;
+  few = (let b = more.few in omega (arith, b));
+}
+
+pub all_weekdays : (p : List Piece) → ArePieces p → SomeWeekdays p
+all_weekdays [] are = record { xs = []; are = AllWeekdays.none [] [] refl refl; few = omega arith }
+all_weekdays (x ∷ p) are = add_weekday x p (names_weekdays x) refl are.0 are.1 (all_weekdays p are.1)
 
 -- ---- times
 

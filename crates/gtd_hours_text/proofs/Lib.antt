@@ -3,6 +3,7 @@ pub mod DraftLemmas
 pub mod AddingLemmas
 pub mod BuildingLemmas
 pub mod PlaceLemmas
+pub mod OffsetLemmas
 pub mod WrittenTerms
 pub mod WrittenTokens
 pub mod WrittenParts

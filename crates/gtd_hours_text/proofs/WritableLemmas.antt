@@ -1,6 +1,8 @@
 -- Hours that a text stands for can be written.
 use Rattle.std.proofs.Common.{◌≡◌, ℕ, ◌+◌, Bool, true, false, cond, List, [], ◌∷◌, Option, Some, None, refl, sym, subst, ◌∙◌}
+use Rattle.std.proofs.Common.{arith}
 use Rattle.std.specs.List.{filter, list_all}
+use Rattle.std.proofs.lemmas.Bool.{lt-ltb}
 use Rattle.std.proofs.lemmas.List.Folds.{list_all-append}
 use Rattle.gtd_hours.specs.declared.hours.Hours.{Hours}
 use Rattle.gtd_hours.specs.declared.hours.Link.{Link}
@@ -12,10 +14,12 @@ use Rattle.gtd_hours.specs.Writable.{AreWritable, BeginAnew, IsWritable, IsWrita
 use Rattle.gtd_hours.specs.Writable.{is_month_days, is_weekdays, is_weeks, is_years}
 use Rattle.gtd_hours_parts.specs.declared.digits.Digits.{Digits}
 use Rattle.gtd_hours_parts.specs.declared.piece.LastDate.{LastDate}
+use Rattle.gtd_hours_parts.specs.declared.piece.Offset.{Offset}
 use Rattle.gtd_hours_parts.specs.declared.piece.Piece.{Piece}
 use Rattle.gtd_hours_parts.specs.declared.piece.Piece.TheVariants as piece
 use Rattle.gtd_hours_parts.specs.declared.piece.WrittenDate.{WrittenDate}
-use Rattle.gtd_hours_text.specs.Standing.{AllSelectors, AreDates, ArePlaces, AreRules, AreSelectors, IsPlace, IsRule, StandsFor}
+use Rattle.gtd_hours_text.specs.Standing.{AllSelectors, AllWeekdays, AreDates, AreMoved, ArePlaces, AreRules, AreSelectors}
+use Rattle.gtd_hours_text.specs.Standing.{IsMoved, IsPlace, IsRule, StandsFor, offset_in}
 use Rattle.gtd_hours_text.specs.Standing.{names_month_days, names_weekdays, names_weeks, names_years}
 use Rattle.gtd_hours_text.proofs.WrittenSelectors.{and_both}
 use Rattle.gtd_hours_text.proofs.WrittenTokens.{both_true}
@@ -69,7 +73,37 @@ only_weekdays (piece.PlaceBack a b) (selector.NthBack x ∷ []) e are = refl
 only_weekdays (piece.PlaceBack a b) (x ∷ []) e are = absurd are
 only_weekdays (piece.PlaceBack a b) xs e are = absurd are
 only_weekdays (piece.Places k a b) xs e are = only_places k _ _ xs are
+only_weekdays (piece.PlacesEnd o) xs e are = subst (λ (l : List Selector). list_all is_weekdays l ≡ true) (sym are) refl
 only_weekdays y xs e are = absurd cc
+
+-- and stay so where an offset moves them
+moved_one : (o : Option Offset) (x y : Selector) → is_weekdays x ≡ true → IsMoved o x y → is_weekdays y ≡ true
+moved_one (Some o) (selector.Nth x) (selector.Moved y) e h = lt-ltb 0 y.days (omega (arith, h.0))
+moved_one (Some o) (selector.Nth x) y e h = subst (λ (z : Selector). is_weekdays z ≡ true) h.0 refl
+moved_one (Some o) (selector.NthBack x) (selector.Moved y) e h = lt-ltb 0 y.days (omega (arith, h.0))
+moved_one (Some o) (selector.NthBack x) y e h = subst (λ (z : Selector). is_weekdays z ≡ true) h.0 refl
+moved_one (Some o) x y e h = subst (λ (z : Selector). is_weekdays z ≡ true) h e
+moved_one None x y e h = subst (λ (z : Selector). is_weekdays z ≡ true) h e
+
+moved_all : (o : Option Offset) (xs ys : List Selector) → list_all is_weekdays xs ≡ true → AreMoved o xs ys
+    → list_all is_weekdays ys ≡ true
+moved_all o [] [] e h = refl
+moved_all o (x ∷ xs) (y ∷ ys) e h =
+    let two = and_both (is_weekdays x) (list_all is_weekdays xs) e in
+    both_true (is_weekdays y) (list_all is_weekdays ys) (moved_one o x y two.0 h.0) (moved_all o xs ys two.1 h.1)
+moved_all o [] (y ∷ ys) e h = absurd h
+moved_all o (x ∷ xs) [] e h = absurd h
+
+all_weekdays : (p : List Piece) (xs : List Selector) → list_all names_weekdays p ≡ true → AllWeekdays p xs
+    → list_all is_weekdays xs ≡ true
+all_weekdays p xs h (AllWeekdays.none q zs e f) =
+    subst (λ (l : List Selector). list_all is_weekdays l ≡ true) (sym f) refl
+all_weekdays p xs h (AllWeekdays.more y o q us a b c e f are moved all) =
+    let here : list_all names_weekdays (y ∷ q) ≡ true = subst (λ (l : List Piece). list_all names_weekdays l ≡ true) e h in
+    let two = and_both (names_weekdays y) (list_all names_weekdays q) here in
+    subst (λ (l : List Selector). list_all is_weekdays l ≡ true) (sym f)
+    (list_all-append is_weekdays a b ∙ both_true (list_all is_weekdays a) (list_all is_weekdays b)
+    (moved_all (offset_in q) us a (only_weekdays y us two.0 are) moved) (all_weekdays q b two.1 all))
 
 -- ---- and so are those of all pieces
 
@@ -106,8 +140,7 @@ writable_rule l p rule r = record {
   are_month_days = all_such names_month_days is_month_days only_month_days (filter names_month_days p) r.month_days
       (filtered names_month_days p) r.are_month_days;
   are_weeks = all_such names_weeks is_weeks only_weeks (filter names_weeks p) r.weeks (filtered names_weeks p) r.are_weeks;
-  are_weekdays = all_such names_weekdays is_weekdays only_weekdays (filter names_weekdays p) r.weekdays
-      (filtered names_weekdays p) r.are_weekdays;
+  are_weekdays = all_weekdays (filter names_weekdays p) r.weekdays (filtered names_weekdays p) r.are_weekdays;
   kinds = r.kinds;
 }
 

@@ -1,8 +1,8 @@
 -- Written months, dates, weekdays and times are pieces.
 use Rattle.std.proofs.Common.{◌≡◌, ℕ, ◌+◌, ◌/◌, ◌%◌, ◌≤◌, Bool, true, false, cond, List, [], ◌∷◌, ◌++◌, length}
-use Rattle.std.proofs.Common.{Option, Some, None, refl, sym, subst, arith}
-use Rattle.std.specs.Prelude.{◌==◌, ◌&&◌, ◌||◌, codes, decimal, ℤ, pos, ◌≤ℤ◌}
-use Rattle.std.proofs.lemmas.Bool.{eqb-true}
+use Rattle.std.proofs.Common.{Option, Some, None, refl, sym, ap, subst, arith}
+use Rattle.std.specs.Prelude.{◌==◌, ◌&&◌, ◌||◌, codes, decimal, ℤ, pos, ◌≤ℤ◌, if◌then◌else◌, nat_lt}
+use Rattle.std.proofs.lemmas.Bool.{eqb-true, ltb-true, ne_eqb}
 use Rattle.std.proofs.lemmas.Bool.Decides.{nat_tests}
 use Rattle.std.proofs.lemmas.Int.{ints}
 use Rattle.gtd_hours.specs.declared.hours.Selector.{Selector}
@@ -14,11 +14,12 @@ use Rattle.gtd_hours.specs.declared.hours.Dates.{Dates}
 use Rattle.gtd_hours.specs.declared.hours.Dated.{Dated}
 use Rattle.gtd_hours.specs.declared.hours.Weekdays.{Weekdays}
 use Rattle.gtd_hours.specs.declared.hours.WeekdayPlace.{WeekdayPlace}
+use Rattle.gtd_hours.specs.declared.places.MovedPlace.{MovedPlace}
 use Rattle.gtd_hours.specs.declared.hours.TimeRange.{TimeRange}
 use Rattle.gtd_hours.specs.Calendar.{is_leap_year, month_length}
 use Rattle.gtd_hours.specs.Ranges.{IsTimeRange}
 use Rattle.gtd_hours.specs.Written.{clock_text, four_digits, month_day_text, month_name}
-use Rattle.gtd_hours.specs.Written.{selector_text, time_text, weekday_name, year_date_text}
+use Rattle.gtd_hours.specs.Written.{offset_text, place_text, selector_text, time_text, weekday_name, year_date_text}
 use Rattle.gtd_hours_tokens.specs.declared.token.TokenKind.{TokenKind}
 use Rattle.gtd_hours_tokens.specs.declared.token.TokenKind.TheVariants as token
 use Rattle.gtd_hours_parts.specs.declared.clock.ClockTime.{ClockTime}
@@ -28,14 +29,17 @@ use Rattle.gtd_hours_parts.specs.declared.piece.LastDate.{LastDate}
 use Rattle.gtd_hours_parts.specs.declared.piece.LastDate.TheVariants as last_date
 use Rattle.gtd_hours_parts.specs.declared.piece.WrittenDate.{WrittenDate}
 use Rattle.gtd_hours_parts.specs.Pieces.{AreWrittenDates, AreWrittenTimes, IsWrittenDate}
-use Rattle.gtd_hours_grammar.specs.Grammar.{IsDates, IsMonthDays, IsPlaces, IsTimes, IsWeekdays, date_before, in_full}
-use Rattle.gtd_hours_grammar.specs.Grammar.{none as no_more, range_to}
+use Rattle.gtd_hours_grammar.specs.Grammar.{IsDates, IsMonthDays, IsOffset, IsPlaces, IsTimes, IsWeekdays, Suits, date_before}
+use Rattle.gtd_hours_grammar.specs.Grammar.{in_full, none as no_more, offset_before, range_to, sign}
+use Rattle.gtd_hours_parts.specs.declared.piece.Offset.{Offset}
 use Rattle.gtd_hours_parts.specs.declared.piece.Piece.{Piece}
-use Rattle.gtd_hours_text.specs.Standing.{ArePlaces, AreSelectors}
-use Rattle.gtd_hours_text.proofs.WrittenTokens.{Anything, Apart, Spelt, decimal_spelt, joined, sign_spelt}
-use Rattle.gtd_hours_text.proofs.WrittenParts.{clock_spelt, dashed, month_spelt, spaced, weekday_spelt, year_spelt}
-use Rattle.gtd_hours_text.proofs.WrittenItems.{Item, Says, no_selectors, one_piece, only_month_days, only_times, only_weekdays}
-use Rattle.gtd_hours_text.proofs.WrittenItems.{says_of}
+use Rattle.gtd_hours_text.specs.Standing.{AllWeekdays, AreMoved, ArePlaces, AreSelectors, offset_in}
+use Rattle.gtd_hours_text.proofs.WrittenTokens.{Anything, Apart, Spelt, decimal_spelt, joined, loose, sign_spelt, space_spelt}
+use Rattle.gtd_hours_text.proofs.WrittenTokens.{word_spelt}
+use Rattle.gtd_hours_text.proofs.WrittenParts.{clock_spelt, dashed, length_of_decimal, month_spelt, spaced, weekday_spelt}
+use Rattle.gtd_hours_text.proofs.WrittenParts.{year_spelt}
+use Rattle.gtd_hours_text.proofs.WrittenItems.{AreAll, Item, Says, in_brackets, no_selectors, no_weekdays, one_piece}
+use Rattle.gtd_hours_text.proofs.WrittenItems.{only_month_days, only_times, only_weekdays, says_of}
 use Rattle.gtd_hours_text.proofs.WrittenSelectors.{and_both, digits, is_day, is_place, year_digits}
 
 -- ---- what each piece says
@@ -44,13 +48,13 @@ says_months : (a : ℕ) (b : Option ℕ) (xs : List Selector) → AreSelectors (
     → Says (piece.Months a b ∷ []) (only_month_days xs)
 says_months a b xs are =
     says_of (piece.Months a b ∷ []) (only_month_days xs) no_selectors (one_piece (piece.Months a b) xs are) no_selectors
-    no_selectors (record {}) refl refl
+    no_weekdays (record {}) refl refl
 
 says_dates : (a : WrittenDate) (b : Option LastDate) (xs : List Selector) → AreSelectors (piece.Dates a b) xs
     → Says (piece.Dates a b ∷ []) (only_month_days xs)
 says_dates a b xs are =
     says_of (piece.Dates a b ∷ []) (only_month_days xs) no_selectors (one_piece (piece.Dates a b) xs are) no_selectors
-    no_selectors (record {}) refl refl
+    no_weekdays (record {}) refl refl
 
 -- ---- months
 
@@ -58,7 +62,7 @@ months_by : (x : Months) (b : Bool) → (x.first == x.last) ≡ b
     → Item (IsMonthDays in_full) (cond b (month_name x.first) (month_name x.first ++ codes "-" ++ month_name x.last))
     (only_month_days (selector.Months x ∷ [])) false
 months_by x true e = record {
-  x = piece.Months x.first None;
+  p = piece.Months x.first None ∷ [];
   us = token.Month x.first ∷ [];
   spelt = month_spelt x.first x.first_in;
   one = λ later rest. IsMonthDays.month x.first refl refl x.first_in;
@@ -66,7 +70,7 @@ months_by x true e = record {
   front = λ rest. refl;
 }
 months_by x false e = record {
-  x = piece.Months x.first (Some x.last);
+  p = piece.Months x.first (Some x.last) ∷ [];
   us = token.Month x.first ∷ token.Dash ∷ token.Month x.last ∷ [];
   spelt = dashed (month_name x.first) (month_name x.last) (token.Month x.first ∷ []) (token.Month x.last ∷ [])
       (month_spelt x.first x.first_in) (month_spelt x.last x.last_in);
@@ -120,7 +124,7 @@ dates_by : (x : Dates) (b : Bool) → ((x.first.month == x.last.month) && (x.fir
 dates_by x true e =
     let same = and_both (x.first.month == x.last.month) (x.first.day == x.last.day) e in
     record {
-      x = piece.Dates (written x.first) None;
+      p = piece.Dates (written x.first) None ∷ [];
       us = token.Month x.first.month ∷ token.Number x.first.day (length (decimal x.first.day)) ∷ [];
       spelt = month_day_spelt x.first;
       one = λ later rest. a_date (written x.first) None later rest (is_written x.first) (record {});
@@ -129,7 +133,7 @@ dates_by x true e =
       front = λ rest. refl;
     }
 dates_by x false e = record {
-  x = piece.Dates (written x.first) (Some (last_date.Date (written x.last)));
+  p = piece.Dates (written x.first) (Some (last_date.Date (written x.last))) ∷ [];
   us = token.Month x.first.month ∷ token.Number x.first.day (length (decimal x.first.day)) ∷ token.Dash
       ∷ token.Month x.last.month ∷ token.Number x.last.day (length (decimal x.last.day)) ∷ [];
   spelt = dashed (month_day_text x.first) (month_day_text x.last)
@@ -184,7 +188,7 @@ pub dated_item : (follows : Bool) (x : Dated) → Item (IsMonthDays in_full) (se
 dated_item follows x =
     let last = is_dated x.last in
     record {
-      x = piece.Dates (dated x.first) (Some (last_date.Date (dated x.last)));
+      p = piece.Dates (dated x.first) (Some (last_date.Date (dated x.last))) ∷ [];
       us = dated_kinds x.first ++ token.Dash ∷ [] ++ dated_kinds x.last;
       spelt = dashed (year_date_text x.first) (year_date_text x.last) (dated_kinds x.first) (dated_kinds x.last)
           (year_date_spelt x.first) (year_date_spelt x.last);
@@ -197,17 +201,30 @@ dated_item follows x =
 
 -- ---- weekdays
 
+-- plain weekdays stay, whatever offset follows
+stay : (o : Option Offset) (k : ℕ) (b : Option ℕ) (xs : List Selector) → AreSelectors (piece.Weekdays k b) xs → AreMoved o xs xs
+stay None k b (selector.Weekdays x ∷ []) are = (refl, record {})
+stay (Some o) k b (selector.Weekdays x ∷ []) are = (refl, record {})
+stay o k b (x ∷ []) are = absurd are
+stay o k b xs are = absurd are
+
+all_weekdays : (k : ℕ) (b : Option ℕ) (xs : List Selector) → AreSelectors (piece.Weekdays k b) xs
+    → AreAll (piece.Weekdays k b ∷ []) xs
+all_weekdays k b xs are = λ rest ys all.
+    AllWeekdays.more (piece.Weekdays k b) (piece.Weekdays k b ∷ rest) rest xs xs ys (xs ++ ys) refl refl are
+    (stay (offset_in rest) k b xs are) all
+
 says_weekdays : (k : ℕ) (b : Option ℕ) (xs : List Selector) → AreSelectors (piece.Weekdays k b) xs
     → Says (piece.Weekdays k b ∷ []) (only_weekdays xs)
 says_weekdays k b xs are =
     says_of (piece.Weekdays k b ∷ []) (only_weekdays xs) no_selectors no_selectors no_selectors
-    (one_piece (piece.Weekdays k b) xs are) (record {}) refl refl
+    (all_weekdays k b xs are) (record {}) refl refl
 
 weekdays_by : (x : Weekdays) (b : Bool) → (x.first == x.last) ≡ b
     → Item IsWeekdays (cond b (weekday_name x.first) (weekday_name x.first ++ codes "-" ++ weekday_name x.last))
     (only_weekdays (selector.Weekdays x ∷ [])) false
 weekdays_by x true e = record {
-  x = piece.Weekdays x.first None;
+  p = piece.Weekdays x.first None ∷ [];
   us = token.Weekday x.first ∷ [];
   spelt = weekday_spelt x.first x.first_in;
   one = λ later rest. IsWeekdays.one x.first refl refl x.first_in;
@@ -215,7 +232,7 @@ weekdays_by x true e = record {
   front = λ rest. refl;
 }
 weekdays_by x false e = record {
-  x = piece.Weekdays x.first (Some x.last);
+  p = piece.Weekdays x.first (Some x.last) ∷ [];
   us = token.Weekday x.first ∷ token.Dash ∷ token.Weekday x.last ∷ [];
   spelt = dashed (weekday_name x.first) (weekday_name x.last) (token.Weekday x.first ∷ []) (token.Weekday x.last ∷ [])
       (weekday_spelt x.first x.first_in) (weekday_spelt x.last x.last_in);
@@ -253,28 +270,43 @@ nth_spelt x =
     (opened (weekday_name x.weekday) (token.Weekday x.weekday ∷ []) (weekday_spelt x.weekday r.0))
     (decimal_spelt x.number (omega (arith, r.2))) (λ rest c. tt))
 
+-- the tokens of a place in brackets
+abbrev nth_kinds : WeekdayPlace → List TokenKind
+nth_kinds x =
+    token.Weekday x.weekday ∷ token.OpenBracket ∷ token.Number x.number (length (decimal x.number)) ∷ token.CloseBracket ∷ []
+
+nth_are : (x : WeekdayPlace) → AreSelectors (piece.Places x.weekday (digits x.number) None) (selector.Nth x ∷ [])
+nth_are x =
+    ArePlaces.place x.number x.number (selector.Nth x) [] (selector.Nth x ∷ []) (omega arith) refl (refl, refl)
+    (ArePlaces.past (x.number + 1) x.number [] (omega arith) refl)
+
+nth_one : (x : WeekdayPlace) (o : Option Offset) (later : List Piece) (rest : List TokenKind) → IsOffset o
+    → Suits o false x.number
+    → IsWeekdays (piece.Places x.weekday (digits x.number) None ∷ piece.PlacesEnd o ∷ later)
+    (nth_kinds x ++ offset_before o rest) later rest
+nth_one x o later rest is suits =
+    let r = x.in_range in
+    IsWeekdays.places x.weekday o
+    (token.Number x.number (length (decimal x.number)) ∷ token.CloseBracket ∷ offset_before o rest) refl r.0 is (record {
+      q = piece.PlacesEnd o ∷ later;
+      us = token.CloseBracket ∷ offset_before o rest;
+      one = IsPlaces.one (digits x.number) refl refl (is_place x.number r.1 r.2) suits;
+      more = no_more (piece.PlacesEnd o ∷ later) (token.CloseBracket ∷ offset_before o rest) refl refl;
+    })
+
 pub nth_item : (follows : Bool) (x : WeekdayPlace)
     → Item IsWeekdays (selector_text follows (selector.Nth x)) (only_weekdays (selector.Nth x ∷ [])) false
-nth_item follows x =
-    let r = x.in_range in
-    record {
-      x = piece.Places x.weekday (digits x.number) None;
-      us = token.Weekday x.weekday ∷ token.OpenBracket ∷ token.Number x.number (length (decimal x.number)) ∷ token.CloseBracket
-          ∷ [];
-      spelt = nth_spelt x;
-      one = λ later rest. IsWeekdays.places x.weekday
-          (token.Number x.number (length (decimal x.number)) ∷ token.CloseBracket ∷ rest) refl r.0 (record {
-            q = later;
-            us = token.CloseBracket ∷ rest;
-            one = IsPlaces.one (digits x.number) refl refl (is_place x.number r.1 r.2);
-            more = no_more later (token.CloseBracket ∷ rest) refl refl;
-          });
-      says = says_of (piece.Places x.weekday (digits x.number) None ∷ []) (only_weekdays (selector.Nth x ∷ [])) no_selectors
-          no_selectors no_selectors (one_piece (piece.Places x.weekday (digits x.number) None) (selector.Nth x ∷ [])
-          (ArePlaces.place x.number x.number (selector.Nth x) [] (selector.Nth x ∷ []) (omega arith) refl (refl, refl)
-          (ArePlaces.past (x.number + 1) x.number [] (omega arith) refl))) (record {}) refl refl;
-      front = λ rest. refl;
-    }
+nth_item follows x = record {
+  p = piece.Places x.weekday (digits x.number) None ∷ piece.PlacesEnd None ∷ [];
+  us = nth_kinds x;
+  spelt = nth_spelt x;
+  one = λ later rest. nth_one x None later rest (record {}) (record {});
+  says = says_of (piece.Places x.weekday (digits x.number) None ∷ piece.PlacesEnd None ∷ [])
+      (only_weekdays (selector.Nth x ∷ [])) no_selectors no_selectors no_selectors
+      (in_brackets (piece.Places x.weekday (digits x.number) None) None (selector.Nth x ∷ []) (selector.Nth x ∷ []) (nth_are x)
+      (refl, record {})) (record {}) refl refl;
+  front = λ rest. refl;
+}
 
 back_spelt : (x : WeekdayPlace) → Spelt Apart (weekday_name x.weekday ++ codes "[-" ++ decimal x.number ++ codes "]")
     (token.Weekday x.weekday ∷ token.OpenBracket ∷ token.Dash ∷ token.Number x.number (length (decimal x.number))
@@ -292,27 +324,148 @@ back_spelt x =
     (token.OpenBracket ∷ token.Dash ∷ []) (weekday_spelt x.weekday r.0) signs (λ rest c. (refl, refl, refl)))
     (decimal_spelt x.number (omega (arith, r.2))) (λ rest c. tt))
 
+abbrev back_kinds : WeekdayPlace → List TokenKind
+back_kinds x =
+    token.Weekday x.weekday ∷ token.OpenBracket ∷ token.Dash ∷ token.Number x.number (length (decimal x.number))
+    ∷ token.CloseBracket ∷ []
+
+back_one : (x : WeekdayPlace) (o : Option Offset) (later : List Piece) (rest : List TokenKind) → IsOffset o
+    → Suits o true x.number
+    → IsWeekdays (piece.PlaceBack x.weekday (digits x.number) ∷ piece.PlacesEnd o ∷ later)
+    (back_kinds x ++ offset_before o rest) later rest
+back_one x o later rest is suits =
+    let r = x.in_range in
+    IsWeekdays.places x.weekday o
+    (token.Dash ∷ token.Number x.number (length (decimal x.number)) ∷ token.CloseBracket ∷ offset_before o rest) refl r.0 is
+    (record {
+      q = piece.PlacesEnd o ∷ later;
+      us = token.CloseBracket ∷ offset_before o rest;
+      one = IsPlaces.back (digits x.number) refl refl (is_place x.number r.1 r.2) suits;
+      more = no_more (piece.PlacesEnd o ∷ later) (token.CloseBracket ∷ offset_before o rest) refl refl;
+    })
+
 pub back_item : (follows : Bool) (x : WeekdayPlace)
     → Item IsWeekdays (selector_text follows (selector.NthBack x)) (only_weekdays (selector.NthBack x ∷ [])) false
-back_item follows x =
+back_item follows x = record {
+  p = piece.PlaceBack x.weekday (digits x.number) ∷ piece.PlacesEnd None ∷ [];
+  us = back_kinds x;
+  spelt = back_spelt x;
+  one = λ later rest. back_one x None later rest (record {}) (record {});
+  says = says_of (piece.PlaceBack x.weekday (digits x.number) ∷ piece.PlacesEnd None ∷ [])
+      (only_weekdays (selector.NthBack x ∷ [])) no_selectors no_selectors no_selectors
+      (in_brackets (piece.PlaceBack x.weekday (digits x.number)) None (selector.NthBack x ∷ []) (selector.NthBack x ∷ [])
+      (refl, refl) (refl, record {})) (record {}) refl refl;
+  front = λ rest. refl;
+}
+
+-- ---- places with offsets
+
+offset_sign : (before : Bool) → Spelt Anything (if before then codes " -" else codes " +") (sign before ∷ [])
+offset_sign true =
+    joined Anything Anything (32 ∷ []) (45 ∷ []) [] (token.Dash ∷ []) space_spelt (sign_spelt 45 token.Dash refl) (λ rest c. tt)
+offset_sign false =
+    joined Anything Anything (32 ∷ []) (43 ∷ []) [] (token.Plus ∷ []) space_spelt (sign_spelt 43 token.Plus refl) (λ rest c. tt)
+
+day_word : (b : Bool) → Spelt Apart (if b then codes " day" else codes " days") (token.Day ∷ [])
+day_word true =
+    loose (32 ∷ []) (codes "day") [] (token.Day ∷ []) space_spelt
+    (word_spelt (codes "day") token.Day (record { letters = refl; word = refl }))
+day_word false =
+    loose (32 ∷ []) (codes "days") [] (token.Day ∷ []) space_spelt
+    (word_spelt (codes "days") token.Day (record { letters = refl; word = refl }))
+
+word_apart : (b : Bool) (rest : List ℕ) → Apart ((if b then codes " day" else codes " days") ++ rest)
+word_apart true rest = (refl, refl, refl)
+word_apart false rest = (refl, refl, refl)
+
+offset_spelt : (before : Bool) (days : ℕ) → days ≤ 27
+    → Spelt Apart ((if before then codes " -" else codes " +") ++ decimal days
+    ++ (if days == 1 then codes " day" else codes " days"))
+    (sign before ∷ token.Number days (length (decimal days)) ∷ token.Day ∷ [])
+offset_spelt before days few =
+    joined Apart Apart ((if before then codes " -" else codes " +") ++ decimal days)
+    (if days == 1 then codes " day" else codes " days") (sign before ∷ token.Number days (length (decimal days)) ∷ [])
+    (token.Day ∷ [])
+    (loose (if before then codes " -" else codes " +") (decimal days) (sign before ∷ [])
+    (token.Number days (length (decimal days)) ∷ []) (offset_sign before) (decimal_spelt days (omega (arith, few))))
+    (day_word (days == 1)) (λ rest c. word_apart (days == 1) rest)
+
+offset_apart : (before : Bool) (a rest : List ℕ) → Apart (((if before then codes " -" else codes " +") ++ a) ++ rest)
+offset_apart true a rest = (refl, refl, refl)
+offset_apart false a rest = (refl, refl, refl)
+
+abbrev offset_of : MovedPlace → Offset
+offset_of x = record { is_before = x.is_before; days = digits x.days }
+
+is_offset : (x : MovedPlace) → 1 ≤ x.days → IsOffset (Some (offset_of x))
+is_offset x some =
+    let l = length_of_decimal 2 x.days (omega arith) (omega (arith, x.in_range.1)) (omega (arith, x.in_range.1)) in
+    (l.0, l.1, some, x.in_range.1)
+
+offset_some : (before : Bool) (days : ℕ) → (days == 0) ≡ false → offset_text before days
+    ≡ (if before then codes " -" else codes " +") ++ decimal days ++ (if days == 1 then codes " day" else codes " days")
+offset_some before days e =
+    ap (λ (b : Bool). if b then [] else ((if before then codes " -" else codes " +") ++ decimal days
+    ++ (if days == 1 then codes " day" else codes " days"))) e
+
+moved_spelt : (x : MovedPlace) (place : List ℕ) (ks : List TokenKind) → (x.days == 0) ≡ false → Spelt Apart place ks
+    → Spelt Apart (place ++ offset_text x.is_before x.days)
+    (ks ++ sign x.is_before ∷ token.Number x.days (length (decimal x.days)) ∷ token.Day ∷ [])
+moved_spelt x place ks e spelt =
+    let days = token.Number x.days (length (decimal x.days)) in
+    subst (λ (l : List ℕ). Spelt Apart (place ++ l) (ks ++ sign x.is_before ∷ days ∷ token.Day ∷ []))
+    (sym (offset_some x.is_before x.days e))
+    (joined Apart Apart place ((if x.is_before then codes " -" else codes " +") ++ decimal x.days
+    ++ (if x.days == 1 then codes " day" else codes " days")) ks (sign x.is_before ∷ days ∷ token.Day ∷ []) spelt
+    (offset_spelt x.is_before x.days x.in_range.1)
+    (λ rest c. moved_apart x.is_before (decimal x.days) (if x.days == 1 then codes " day" else codes " days") rest))
+  where
+    moved_apart : (before : Bool) (a b rest : List ℕ) → Apart (((if before then codes " -" else codes " +") ++ a ++ b) ++ rest)
+    moved_apart true a b rest = (refl, refl, refl)
+    moved_apart false a b rest = (refl, refl, refl)
+
+moved_by : (x : MovedPlace) (back : Bool) → x.is_back ≡ back → 1 ≤ x.days → (x.days == 0) ≡ false
+    → Item IsWeekdays (place_text back x.place ++ offset_text x.is_before x.days) (only_weekdays (selector.Moved x ∷ [])) false
+moved_by x true back some e =
+    let o = Some (offset_of x) in
+    let y = piece.PlaceBack x.place.weekday (digits x.place.number) in
     let r = x.in_range in
     record {
-      x = piece.PlaceBack x.weekday (digits x.number);
-      us = token.Weekday x.weekday ∷ token.OpenBracket ∷ token.Dash ∷ token.Number x.number (length (decimal x.number))
-          ∷ token.CloseBracket ∷ [];
-      spelt = back_spelt x;
-      one = λ later rest. IsWeekdays.places x.weekday
-          (token.Dash ∷ token.Number x.number (length (decimal x.number)) ∷ token.CloseBracket ∷ rest) refl r.0 (record {
-            q = later;
-            us = token.CloseBracket ∷ rest;
-            one = IsPlaces.back (digits x.number) refl refl (is_place x.number r.1 r.2);
-            more = no_more later (token.CloseBracket ∷ rest) refl refl;
-          });
-      says = says_of (piece.PlaceBack x.weekday (digits x.number) ∷ []) (only_weekdays (selector.NthBack x ∷ [])) no_selectors
-          no_selectors no_selectors
-          (one_piece (piece.PlaceBack x.weekday (digits x.number)) (selector.NthBack x ∷ []) (refl, refl)) (record {}) refl refl;
+      p = y ∷ piece.PlacesEnd o ∷ [];
+      us = back_kinds x.place ++ sign x.is_before ∷ token.Number x.days (length (decimal x.days)) ∷ token.Day ∷ [];
+      spelt = moved_spelt x (weekday_name x.place.weekday ++ codes "[-" ++ decimal x.place.number ++ codes "]")
+          (back_kinds x.place) e (back_spelt x.place);
+      one = λ later rest. back_one x.place o later rest (is_offset x some)
+          (r.0, r.1, r.2, λ before twice. r.3 before back);
+      says = says_of (y ∷ piece.PlacesEnd o ∷ []) (only_weekdays (selector.Moved x ∷ [])) no_selectors no_selectors no_selectors
+          (in_brackets y o (selector.NthBack x.place ∷ []) (selector.Moved x ∷ []) (refl, refl)
+          ((some, refl, back, refl, refl), record {})) (record {}) refl refl;
       front = λ rest. refl;
     }
+moved_by x false front some e =
+    let o = Some (offset_of x) in
+    let y = piece.Places x.place.weekday (digits x.place.number) None in
+    let r = x.in_range in
+    record {
+      p = y ∷ piece.PlacesEnd o ∷ [];
+      us = nth_kinds x.place ++ sign x.is_before ∷ token.Number x.days (length (decimal x.days)) ∷ token.Day ∷ [];
+      spelt = moved_spelt x (weekday_name x.place.weekday ++ codes "[" ++ decimal x.place.number ++ codes "]")
+          (nth_kinds x.place) e (nth_spelt x.place);
+      one = λ later rest. nth_one x.place o later rest (is_offset x some) (r.0, r.1, r.2, λ before never. absurd cc);
+      says = says_of (y ∷ piece.PlacesEnd o ∷ []) (only_weekdays (selector.Moved x ∷ [])) no_selectors no_selectors no_selectors
+          (in_brackets y o (selector.Nth x.place ∷ []) (selector.Moved x ∷ []) (nth_are x.place)
+          ((some, refl, front, refl, refl), record {})) (record {}) refl refl;
+      front = λ rest. refl;
+    }
+
+not_zero : (n : ℕ) → 1 ≤ n → (n == 0) ≡ false
+not_zero n some = ne_eqb n 0 (λ e. omega (arith, some, e))
+
+pub moved_item : (follows : Bool) (x : MovedPlace) → nat_lt 0 x.days ≡ true
+    → Item IsWeekdays (selector_text follows (selector.Moved x)) (only_weekdays (selector.Moved x ∷ [])) false
+moved_item follows x e =
+    let some : 1 ≤ x.days = omega (arith, ltb-true 0 x.days e) in
+    moved_by x x.is_back refl some (not_zero x.days some)
 
 -- ---- times
 
@@ -339,7 +492,7 @@ pub time_item : (x : TimeRange) → Item IsTimes (time_text x) (only_times (x �
 time_item x =
     let high = last_bound x.begin x.last x.in_range in
     record {
-      x = piece.Times (clock x.begin) (clock x.last);
+      p = piece.Times (clock x.begin) (clock x.last) ∷ [];
       us = token.Time (x.begin / 60) (x.begin % 60) ∷ token.Dash ∷ token.Time (x.last / 60) (x.last % 60) ∷ [];
       spelt = dashed (clock_text x.begin) (clock_text x.last) (token.Time (x.begin / 60) (x.begin % 60) ∷ [])
           (token.Time (x.last / 60) (x.last % 60) ∷ []) (clock_spelt x.begin (omega (arith, x.in_range.0)))
@@ -355,7 +508,7 @@ time_item x =
         years = no_selectors;
         month_days = no_selectors;
         weeks = no_selectors;
-        weekdays = no_selectors;
+        weekdays = no_weekdays;
         times = (sym (minute_is x.begin), sym (minute_is x.last), record {});
         closed = refl;
         one = refl;

@@ -1,5 +1,5 @@
 -- Written lists, with commas between, are pieces of a kind.
-use Rattle.std.proofs.Common.{◌≡◌, ℕ, Bool, true, false, List, [], ◌∷◌, ◌++◌, refl, sym, ap, subst, ◌∙◌, append_assoc}
+use Rattle.std.proofs.Common.{◌≡◌, ℕ, Bool, true, false, Option, List, [], ◌∷◌, ◌++◌, refl, sym, ap, subst, ◌∙◌, append_assoc}
 use Rattle.std.specs.Prelude.{◌||◌}
 use Rattle.std.specs.List.{filter}
 use Rattle.std.proofs.lemmas.List.{append-nil}
@@ -8,10 +8,11 @@ use Rattle.gtd_hours.specs.declared.hours.Selector.{Selector}
 use Rattle.gtd_hours.specs.declared.hours.TimeRange.{TimeRange}
 use Rattle.gtd_hours_tokens.specs.declared.token.TokenKind.TheVariants as token
 use Rattle.gtd_hours_text.proofs.WrittenTerms.{TokenKind, Piece}
+use Rattle.gtd_hours_parts.specs.declared.piece.Offset.{Offset}
 use Rattle.gtd_hours_parts.specs.declared.piece.Piece.TheVariants as piece
 use Rattle.gtd_hours_grammar.specs.declared.stage.Stage.TheVariants as stage
 use Rattle.gtd_hours_grammar.specs.Grammar.{Listed, More, Text, list_goes_on, none as no_more, comma as one_more}
-use Rattle.gtd_hours_text.specs.Standing.{AllSelectors, AllTimes, AreSelectors, is_closed, is_one_rule}
+use Rattle.gtd_hours_text.specs.Standing.{AllSelectors, AllTimes, AllWeekdays, AreMoved, AreSelectors, is_closed, is_one_rule}
 use Rattle.gtd_hours_text.specs.Standing.{names_month_days, names_times, names_weekdays, names_weeks, names_years}
 use Rattle.gtd_hours_text.proofs.WrittenTokens.{Apart, Spelt, empty_spelt, joined, loose, sign_spelt}
 
@@ -53,25 +54,47 @@ only_times xs = record { years = []; month_days = []; weeks = []; weekdays = [];
 abbrev pub only_closed : Bool → Contents
 only_closed b = record { years = []; month_days = []; weeks = []; weekdays = []; times = []; closed = b }
 
+-- The pieces are these weekdays, whatever follows them.
+abbrev pub AreAll : List Piece → List Selector → Type 0
+AreAll q xs = (rest : List Piece) (ys : List Selector) → AllWeekdays rest ys → AllWeekdays (q ++ rest) (xs ++ ys)
+
 -- The pieces have these selectors of each kind, these times, and say whether the rule is closed. No rule begins in them.
 pub record Says (q : List Piece) (c : Contents) : Type 0 where
   pub years : AllSelectors (filter names_years q) c.years
   pub month_days : AllSelectors (filter names_month_days q) c.month_days
   pub weeks : AllSelectors (filter names_weeks q) c.weeks
-  pub weekdays : AllSelectors (filter names_weekdays q) c.weekdays
+  pub weekdays : AreAll (filter names_weekdays q) c.weekdays
   pub times : AllTimes (filter names_times q) c.times
   pub closed : is_closed q ≡ c.closed
   pub one : is_one_rule q ≡ true
 
 pub says_of : (q : List Piece) (c : Contents) → AllSelectors (filter names_years q) c.years
     → AllSelectors (filter names_month_days q) c.month_days → AllSelectors (filter names_weeks q) c.weeks
-    → AllSelectors (filter names_weekdays q) c.weekdays → AllTimes (filter names_times q) c.times → is_closed q ≡ c.closed
+    → AreAll (filter names_weekdays q) c.weekdays → AllTimes (filter names_times q) c.times → is_closed q ≡ c.closed
     → is_one_rule q ≡ true → Says q c
 says_of q c y m w d t closes rule =
     record { years = y; month_days = m; weeks = w; weekdays = d; times = t; closed = closes; one = rule }
 
 pub no_selectors : AllSelectors [] []
 no_selectors = AllSelectors.none [] [] refl refl
+
+pub no_weekdays : AreAll [] []
+no_weekdays = λ rest ys all. all
+
+-- places in brackets, and the offset behind them
+pub in_brackets : (y : Piece) (o : Option Offset) (us xs : List Selector) → AreSelectors y us → AreMoved o us xs
+    → AreAll (y ∷ piece.PlacesEnd o ∷ []) xs
+in_brackets y o us xs are moved = λ rest ys all.
+    AllWeekdays.more y (y ∷ piece.PlacesEnd o ∷ rest) (piece.PlacesEnd o ∷ rest) us xs ys (xs ++ ys) refl refl are moved
+    (AllWeekdays.more (piece.PlacesEnd o) (piece.PlacesEnd o ∷ rest) rest [] [] ys ys refl refl refl (record {}) all)
+
+all_weekdays : (is : Piece → Bool) (p q : List Piece) (xs ys : List Selector) → AreAll (filter is p) xs
+    → AreAll (filter is q) ys → AreAll (filter is (p ++ q)) (xs ++ ys)
+all_weekdays is p q xs ys a b = λ rest zs all.
+    subst (λ (l : List Piece). AllWeekdays (l ++ rest) ((xs ++ ys) ++ zs)) (sym (filter-append is p q))
+    (subst (λ (l : List Piece). AllWeekdays l ((xs ++ ys) ++ zs)) (sym (append_assoc (filter is p) (filter is q) rest))
+    (subst (λ (l : List Selector). AllWeekdays (filter is p ++ (filter is q ++ rest)) l) (sym (append_assoc xs ys zs))
+    (a (filter is q ++ rest) (ys ++ zs) (b rest zs all))))
 
 pub one_piece : (y : Piece) (xs : List Selector) → AreSelectors y xs → AllSelectors (y ∷ []) xs
 one_piece y xs are = AllSelectors.more y (y ∷ []) [] xs [] xs refl (sym (append-nil xs)) are no_selectors
@@ -116,14 +139,14 @@ says_joined p q c d a b = record {
   years = some_joined names_years p q c.years d.years a.years b.years;
   month_days = some_joined names_month_days p q c.month_days d.month_days a.month_days b.month_days;
   weeks = some_joined names_weeks p q c.weeks d.weeks a.weeks b.weeks;
-  weekdays = some_joined names_weekdays p q c.weekdays d.weekdays a.weekdays b.weekdays;
+  weekdays = all_weekdays names_weekdays p q c.weekdays d.weekdays a.weekdays b.weekdays;
   times = times_joined p q c.times d.times a.times b.times;
   closed = closed_joined p q ∙ ap (λ (x : Bool). x || is_closed q) a.closed ∙ ap (λ (x : Bool). c.closed || x) b.closed;
   one = rule_joined p q a.one b.one;
 }
 
 pub says_nothing : Says [] (only_years [])
-says_nothing = says_of [] (only_years []) no_selectors no_selectors no_selectors no_selectors (record {}) refl refl
+says_nothing = says_of [] (only_years []) no_selectors no_selectors no_selectors no_weekdays (record {}) refl refl
 
 -- a kind of selectors begins before them
 pub says_kind : (q : List Piece) (c : Contents) → Says q c → Says (piece.Kind ∷ q) c
@@ -139,13 +162,13 @@ says_kind q c s = record {
 
 -- ---- one of a list, and lists
 
--- The text is one piece of a list, which says this; `timed` is whether it begins with a time.
+-- The text is one of a list, which says this; `timed` is whether it begins with a time.
 pub record Item (IsOne : Text) (text : List ℕ) (c : Contents) (timed : Bool) : Type 0 where
-  pub x : Piece
+  pub p : List Piece
   pub us : List TokenKind
   pub spelt : Spelt Apart text us
-  pub one : (later : List Piece) (rest : List TokenKind) → IsOne (x ∷ later) (us ++ rest) later rest
-  pub says : Says (x ∷ []) c
+  pub one : (later : List Piece) (rest : List TokenKind) → IsOne (p ++ later) (us ++ rest) later rest
+  pub says : Says p c
   pub front : (rest : List TokenKind) → list_goes_on stage.Times (us ++ rest) ≡ timed
 
 pub record MoreItems (IsOne : Text) (text : List ℕ) (c : Contents) : Type 0 where
@@ -174,20 +197,27 @@ no_items IsOne = record {
   says = says_nothing;
 }
 
+-- one of a list, before what follows it in the list
+pub one_of : (IsOne : Text) (p q later : List Piece) (us vs rest : List TokenKind)
+    → IsOne (p ++ (q ++ later)) (us ++ (vs ++ rest)) (q ++ later) (vs ++ rest)
+    → IsOne ((p ++ q) ++ later) ((us ++ vs) ++ rest) (q ++ later) (vs ++ rest)
+one_of IsOne p q later us vs rest one =
+    subst (λ (l : List Piece). IsOne l ((us ++ vs) ++ rest) (q ++ later) (vs ++ rest)) (sym (append_assoc p q later))
+    (subst (λ (l : List TokenKind). IsOne (p ++ (q ++ later)) l (q ++ later) (vs ++ rest)) (sym (append_assoc us vs rest)) one)
+
 unfoldable pub items : (IsOne : Text) (t m : List ℕ) (c d : Contents) (timed : Bool) → Item IsOne t c timed → MoreItems IsOne m d
     → Items IsOne (t ++ m) (plus c d) timed
 items IsOne t m c d timed i more = record {
-  q = i.x ∷ more.q;
+  q = i.p ++ more.q;
   us = i.us ++ more.us;
   spelt = joined Apart Apart t m i.us more.us i.spelt more.spelt more.apart;
   listed = λ later rest. record {
     q = more.q ++ later;
     us = more.us ++ rest;
-    one = subst (λ (l : List TokenKind). IsOne (i.x ∷ (more.q ++ later)) l (more.q ++ later) (more.us ++ rest))
-        (sym (append_assoc i.us more.us rest)) (i.one (more.q ++ later) (more.us ++ rest));
+    one = one_of IsOne i.p more.q later i.us more.us rest (i.one (more.q ++ later) (more.us ++ rest));
     more = more.more later rest;
   };
-  says = says_joined (i.x ∷ []) more.q c d i.says more.says;
+  says = says_joined i.p more.q c d i.says more.says;
   front = λ rest. ap (λ (l : List TokenKind). list_goes_on stage.Times l) (append_assoc i.us more.us rest)
       ∙ i.front (more.us ++ rest);
 }
@@ -196,14 +226,13 @@ unfoldable pub more_items : (IsOne : Text) (t m : List ℕ) (c d : Contents) (ti
     → MoreItems IsOne m d
     → MoreItems IsOne (44 ∷ [] ++ t ++ m) (plus c d)
 more_items IsOne t m c d timed i more = record {
-  q = i.x ∷ more.q;
+  q = i.p ++ more.q;
   us = token.Comma ∷ (i.us ++ more.us);
   spelt = loose (44 ∷ []) (t ++ m) (token.Comma ∷ []) (i.us ++ more.us) (sign_spelt 44 token.Comma refl)
       (joined Apart Apart t m i.us more.us i.spelt more.spelt more.apart);
   apart = λ rest k. (refl, refl, refl);
-  more = λ later rest. one_more (i.x ∷ (more.q ++ later)) (more.q ++ later) (token.Comma ∷ ((i.us ++ more.us) ++ rest))
+  more = λ later rest. one_more ((i.p ++ more.q) ++ later) (more.q ++ later) (token.Comma ∷ ((i.us ++ more.us) ++ rest))
       ((i.us ++ more.us) ++ rest) (more.us ++ rest) refl
-      (subst (λ (l : List TokenKind). IsOne (i.x ∷ (more.q ++ later)) l (more.q ++ later) (more.us ++ rest))
-      (sym (append_assoc i.us more.us rest)) (i.one (more.q ++ later) (more.us ++ rest))) (more.more later rest);
-  says = says_joined (i.x ∷ []) more.q c d i.says more.says;
+      (one_of IsOne i.p more.q later i.us more.us rest (i.one (more.q ++ later) (more.us ++ rest))) (more.more later rest);
+  says = says_joined i.p more.q c d i.says more.says;
 }

@@ -18,7 +18,8 @@ use Rattle.gtd_hours_text.proofs.WrittenItems.{Contents, Item, Items, MoreItems}
 use Rattle.gtd_hours_text.proofs.WrittenItems.{Says, items, more_items, no_items, only_month_days}
 use Rattle.gtd_hours_text.proofs.WrittenItems.{only_weekdays, only_weeks, only_years, says_kind}
 use Rattle.gtd_hours_text.proofs.WrittenSelectors.{DatelessIf, and_both, weeks_item, years_item}
-use Rattle.gtd_hours_text.proofs.WrittenDays.{back_item, dated_item, dates_item, months_item, nth_item, weekdays_item}
+use Rattle.gtd_hours_text.proofs.WrittenDays.{back_item, dated_item, dates_item, months_item, moved_item, nth_item}
+use Rattle.gtd_hours_text.proofs.WrittenDays.{weekdays_item}
 
 -- ---- one kind
 
@@ -69,6 +70,7 @@ one_weekdays : (follows : Bool) (x : Selector) → is_weekdays x ≡ true
 one_weekdays follows (selector.Weekdays x) e = weekdays_item follows x
 one_weekdays follows (selector.Nth x) e = nth_item follows x
 one_weekdays follows (selector.NthBack x) e = back_item follows x
+one_weekdays follows (selector.Moved x) e = moved_item follows x e
 one_weekdays follows x e = absurd cc
 
 more_weekdays : (follows : Bool) (xs : List Selector) → list_all is_weekdays xs ≡ true
@@ -105,7 +107,8 @@ listed_years follows (selector.Years x) (selector.Years y ∷ xs) e =
     let i = years_item follows x in
     let m = more_years follows (selector.Years y ∷ xs) e in
     record {
-      items = items (IsYears in_full) (selector_text follows (selector.Years x)) (more_selectors_text follows (selector.Years y ∷ xs))
+      items = items (IsYears in_full) (selector_text follows (selector.Years x))
+          (more_selectors_text follows (selector.Years y ∷ xs))
           (only_years (selector.Years x ∷ [])) (only_years (selector.Years y ∷ xs)) false i.item m;
       dateless = λ rest d. subst (λ (l : List TokenKind). begins_with_date l ≡ false) (sym (append_assoc i.item.us m.us rest))
           (i.dateless (m.us ++ rest)
@@ -210,4 +213,6 @@ weekdays_group follows (selector.Nth x) xs e =
     weekdays_from follows _ _ (weekdays_items follows (selector.Nth x) xs e)
 weekdays_group follows (selector.NthBack x) xs e =
     weekdays_from follows _ _ (weekdays_items follows (selector.NthBack x) xs e)
+weekdays_group follows (selector.Moved x) xs e =
+    weekdays_from follows _ _ (weekdays_items follows (selector.Moved x) xs e)
 weekdays_group follows x xs e = absurd cc

@@ -18,13 +18,14 @@ use Rattle.gtd_hours_text.proofs.WrittenTerms.{TokenKind, Piece, Stage}
 use Rattle.gtd_hours_parts.specs.declared.piece.Piece.TheVariants as piece
 use Rattle.gtd_hours_grammar.specs.declared.stage.Stage.TheVariants as stage
 use Rattle.gtd_hours_grammar.specs.Grammar.{Follow, IsTimes, in_full, list_goes_on, precedes}
-use Rattle.gtd_hours_text.specs.Standing.{AllSelectors, AllTimes, IsRule, is_one_rule, modifier_of, names_month_days}
+use Rattle.gtd_hours_text.specs.Standing.{AllSelectors, AllTimes, AllWeekdays, IsRule, is_one_rule, modifier_of}
+use Rattle.gtd_hours_text.specs.Standing.{names_month_days}
 use Rattle.gtd_hours_text.specs.Standing.{names_times, names_weekdays, names_weeks, names_years}
 use Rattle.gtd_hours_text.proofs.WrittenTokens.{Anything, Apart, Spelt, empty_spelt, joined, loose, number_spelt, space_spelt}
 use Rattle.gtd_hours_text.proofs.WrittenTokens.{word_spelt}
 use Rattle.gtd_hours_text.proofs.WrittenParts.{slashed}
-use Rattle.gtd_hours_text.proofs.WrittenItems.{Contents, Items, MoreItems, Says, items, more_items, no_items, no_selectors}
-use Rattle.gtd_hours_text.proofs.WrittenItems.{says_of}
+use Rattle.gtd_hours_text.proofs.WrittenItems.{AreAll, Contents, Items, MoreItems, Says, items, more_items, no_items}
+use Rattle.gtd_hours_text.proofs.WrittenItems.{no_selectors, no_weekdays, says_of}
 use Rattle.gtd_hours_text.proofs.WrittenItems.{only_closed, only_times, plus, says_joined, says_nothing}
 use Rattle.gtd_hours_text.proofs.WrittenSelectors.{Dateless}
 use Rattle.gtd_hours_text.proofs.WrittenDays.{time_item}
@@ -205,7 +206,7 @@ modifier_follow modifier.Closed needed ks ts later rest tail s p e =
 modifier_says : (m : Modifier) → Says (modifier_pieces m) (only_closed (closes m))
 modifier_says modifier.Open = says_nothing
 modifier_says modifier.Closed =
-    says_of (piece.Closed ∷ []) (only_closed true) no_selectors no_selectors no_selectors no_selectors (record {}) refl refl
+    says_of (piece.Closed ∷ []) (only_closed true) no_selectors no_selectors no_selectors no_weekdays (record {}) refl refl
 
 modifier_is : (m : Modifier) → m ≡ modifier_of (closes m)
 modifier_is modifier.Open = refl
@@ -230,6 +231,12 @@ pub record OneRule (rule : Rule) (needed : Bool) : Type 0 where
 twice_nothing : (xs : List Selector) → xs ++ [] ++ [] ≡ xs
 twice_nothing xs = append-nil (xs ++ []) ∙ append-nil xs
 
+-- weekdays that nothing follows
+whole : (q : List Piece) (xs : List Selector) → AreAll q xs → AllWeekdays q xs
+whole q xs all =
+    subst (λ (l : List Piece). AllWeekdays l xs) (append-nil q)
+    (subst (λ (l : List Selector). AllWeekdays (q ++ []) l) (append-nil xs) (all [] [] (AllWeekdays.none [] [] refl refl)))
+
 rule_is : (rule : Rule) (w : IsWritableRule rule) (q : List Piece)
     → Says q (plus (plus (of_kinds w.years w.month_days w.weeks w.weekdays) (only_times rule.times.items))
     (only_closed (closes rule.modifier)))
@@ -243,7 +250,8 @@ rule_is rule w q s = record {
   are_month_days =
       subst (λ (l : List Selector). AllSelectors (filter names_month_days q) l) (twice_nothing w.month_days) s.month_days;
   are_weeks = subst (λ (l : List Selector). AllSelectors (filter names_weeks q) l) (twice_nothing w.weeks) s.weeks;
-  are_weekdays = subst (λ (l : List Selector). AllSelectors (filter names_weekdays q) l) (twice_nothing w.weekdays) s.weekdays;
+  are_weekdays = subst (λ (l : List Selector). AllWeekdays (filter names_weekdays q) l) (twice_nothing w.weekdays)
+      (whole (filter names_weekdays q) (w.weekdays ++ [] ++ []) s.weekdays);
   kinds = w.kinds;
   times = subst (λ (l : List TimeRange). AllTimes (filter names_times q) l) (append-nil rule.times.items) s.times;
   modifier = modifier_is rule.modifier ∙ ap modifier_of (sym s.closed);

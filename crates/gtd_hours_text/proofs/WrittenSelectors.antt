@@ -20,7 +20,7 @@ use Rattle.gtd_hours_text.specs.Standing.{AreSelectors}
 use Rattle.gtd_hours_text.proofs.WrittenTokens.{decimal_spelt}
 use Rattle.gtd_hours_text.proofs.WrittenParts.{length_of_decimal, ranged, step_kinds}
 use Rattle.gtd_hours_text.proofs.WrittenParts.{year_spelt}
-use Rattle.gtd_hours_text.proofs.WrittenItems.{Item, Says, no_selectors, one_piece, says_of}
+use Rattle.gtd_hours_text.proofs.WrittenItems.{Item, Says, no_selectors, no_weekdays, one_piece, says_of}
 use Rattle.gtd_hours_text.proofs.WrittenItems.{only_weeks, only_years}
 
 -- ---- numbers
@@ -64,13 +64,13 @@ says_years : (a : Digits) (b d : Option Digits) (xs : List Selector) → AreSele
     → Says (piece.Years a b d ∷ []) (only_years xs)
 says_years a b d xs are =
     says_of (piece.Years a b d ∷ []) (only_years xs) (one_piece (piece.Years a b d) xs are) no_selectors no_selectors
-    no_selectors (record {}) refl refl
+    no_weekdays (record {}) refl refl
 
 says_weeks : (a : Digits) (b d : Option Digits) (xs : List Selector) → AreSelectors (piece.Weeks a b d) xs
     → Says (piece.Weeks a b d ∷ []) (only_weeks xs)
 says_weeks a b d xs are =
     says_of (piece.Weeks a b d ∷ []) (only_weeks xs) no_selectors no_selectors (one_piece (piece.Weeks a b d) xs are)
-    no_selectors (record {}) refl refl
+    no_weekdays (record {}) refl refl
 
 -- ---- years
 
@@ -96,7 +96,7 @@ years_one follows x e f g =
     let high : x.first ≤ 2799 = omega (arith, r.1, r.2) in
     record {
       item = record {
-        x = piece.Years (year_digits x.first) None None;
+        p = piece.Years (year_digits x.first) None None ∷ [];
         us = token.Number x.first 4 ∷ [];
         spelt = year_spelt x.first (omega (arith, high));
         one = λ later rest. IsYears.one (year_digits x.first) refl refl (is_year x.first r.0 high);
@@ -123,7 +123,7 @@ years_range follows x =
     let last = is_year x.last (omega (arith, r.0, r.1)) r.2 in
     record {
       item = record {
-        x = piece.Years (year_digits x.first) (Some (year_digits x.last)) (step_digits (x.step == 1) x.step);
+        p = piece.Years (year_digits x.first) (Some (year_digits x.last)) (step_digits (x.step == 1) x.step) ∷ [];
         us = token.Number x.first 4 ∷ token.Dash ∷ token.Number x.last 4 ∷ step_kinds x.step;
         spelt = ranged (four_digits x.first) (four_digits x.last) x.step (token.Number x.first 4 ∷ [])
             (token.Number x.last 4 ∷ [])
@@ -166,7 +166,7 @@ weeks_one x e f =
     let r = x.in_range in
     let high : x.first ≤ 53 = omega (arith, r.1, r.2) in
     record {
-      x = piece.Weeks (digits x.first) None None;
+      p = piece.Weeks (digits x.first) None None ∷ [];
       us = token.Number x.first (length (decimal x.first)) ∷ [];
       spelt = decimal_spelt x.first (omega (arith, high));
       one = λ later rest. IsWeeks.one (digits x.first) refl refl (is_week x.first r.0 high);
@@ -190,7 +190,7 @@ weeks_range x =
     let first = is_week x.first r.0 (omega (arith, r.1, r.2)) in
     let last = is_week x.last (omega (arith, r.0, r.1)) r.2 in
     record {
-      x = piece.Weeks (digits x.first) (Some (digits x.last)) (step_digits (x.step == 1) x.step);
+      p = piece.Weeks (digits x.first) (Some (digits x.last)) (step_digits (x.step == 1) x.step) ∷ [];
       us = token.Number x.first (length (decimal x.first)) ∷ token.Dash ∷ token.Number x.last (length (decimal x.last))
           ∷ step_kinds x.step;
       spelt = ranged (decimal x.first) (decimal x.last) x.step (token.Number x.first (length (decimal x.first)) ∷ [])

@@ -4,19 +4,27 @@ use Rattle.std.specs.List.{filter}
 use Rattle.gtd_hours.specs.declared.hours.Link.{Link}
 use Rattle.gtd_hours.specs.declared.hours.Link.TheVariants as link
 use Rattle.gtd_hours.specs.declared.hours.Rule.{Rule}
+use Rattle.gtd_hours.specs.declared.hours.Selector.{Selector}
 use Rattle.gtd_hours_parts.specs.declared.piece.Piece.{Piece}
 use Rattle.gtd_hours_parts.specs.declared.piece.Piece.TheVariants as piece
 use Rattle.gtd_hours_text.specs.declared.draft.Draft.{Draft}
 use Rattle.gtd_hours_text.specs.declared.builder.Building.{Building}
-use Rattle.gtd_hours_text.specs.Standing.{AllSelectors, AllTimes, IsRule, is_closed, is_one_rule, names_month_days, names_times}
+use Rattle.gtd_hours_text.specs.Standing.{AllSelectors, AllTimes, AllWeekdays, AreMoved, offset_in}
+use Rattle.gtd_hours_text.specs.Standing.{IsRule, is_closed, is_one_rule, names_month_days, names_times}
 use Rattle.gtd_hours_text.specs.Standing.{names_weekdays, names_weeks, names_years}
+
+-- The pieces are these weekdays, and behind them others, which an offset behind the pieces moves.
+abbrev pub AreWeekdays : List Piece → List Selector → List Selector → Type 0
+AreWeekdays p weekdays unmoved =
+    (rest : List Piece) (xs ys : List Selector) → AreMoved (offset_in rest) unmoved xs → AllWeekdays rest ys
+    → AllWeekdays (p ++ rest) (weekdays ++ (xs ++ ys))
 
 -- The draft holds what the pieces are.
 pub record IsDraft (p : List Piece) (draft : Draft) : Type 0 where
   pub years : AllSelectors (filter names_years p) draft.years.items
   pub month_days : AllSelectors (filter names_month_days p) draft.month_days.items
   pub weeks : AllSelectors (filter names_weeks p) draft.weeks.items
-  pub weekdays : AllSelectors (filter names_weekdays p) draft.weekdays.items
+  pub weekdays : AreWeekdays (filter names_weekdays p) draft.weekdays.items draft.unmoved.items
   pub times : AllTimes (filter names_times p) draft.times.items
   pub closed : draft.closed ≡ is_closed p
   pub one : is_one_rule p ≡ true

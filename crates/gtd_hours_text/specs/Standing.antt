@@ -1,6 +1,7 @@
 -- Which hours the pieces of a text stand for.
-use Rattle.std.specs.Prelude.{◌≡◌, ℕ, ◌+◌, ◌<◌, ◌≤◌, Bool, true, false, List, [], ◌∷◌, ◌++◌}
+use Rattle.std.specs.Prelude.{◌≡◌, ℕ, ◌+◌, ◌<◌, ◌≤◌, Bool, true, false, List, [], ◌∷◌, ◌++◌, Option, Some, None}
 use Rattle.std.specs.List.{filter}
+use Rattle.gtd_hours.specs.Ranges.{IsMovable}
 use Rattle.gtd_hours.specs.declared.hours.Link.{Link}
 use Rattle.gtd_hours.specs.declared.hours.Link.TheVariants as link
 use Rattle.gtd_hours.specs.declared.hours.Modifier.{Modifier}
@@ -14,6 +15,7 @@ pub use Rattle.gtd_hours.specs.Writable.{kind_if, selectors}
 pub use Rattle.gtd_hours_parts.specs.Values.{AreDates, IsMonthDay, IsSelector, IsYearDate, end_year, last_day, last_month}
 pub use Rattle.gtd_hours_parts.specs.Values.{last_number, year_or}
 use Rattle.gtd_hours_parts.specs.Times.{minute_of}
+use Rattle.gtd_hours_parts.specs.declared.piece.Offset.{Offset}
 use Rattle.gtd_hours_parts.specs.declared.piece.Piece.{Piece}
 use Rattle.gtd_hours_parts.specs.declared.piece.Piece.TheVariants as piece
 use Rattle.gtd_hours_grammar.specs.Faults.{IsHoursText}
@@ -33,6 +35,7 @@ pub data ArePlaces (weekday : ℕ) : ℕ → ℕ → List Selector → Type 0 wh
 -- the piece is these selectors
 abbrev pub AreSelectors : Piece → List Selector → Type 0
 AreSelectors (piece.Places weekday first last) xs = ArePlaces weekday first.value (last_number first last) xs
+AreSelectors (piece.PlacesEnd offset) xs = xs ≡ []
 AreSelectors y (x ∷ []) = IsSelector y x
 AreSelectors y xs = ⊥
 
@@ -41,6 +44,39 @@ pub data AllSelectors : List Piece → List Selector → Type 0 where
   none : (p : List Piece) → (xs : List Selector) → p ≡ [] → xs ≡ [] → AllSelectors p xs
   more : (y : Piece) → (p q : List Piece) → (xs ys zs : List Selector) → p ≡ y ∷ q → zs ≡ xs ++ ys → AreSelectors y xs
       → AllSelectors q ys → AllSelectors p zs
+
+-- ---- weekdays, which offsets may move
+
+-- the offset behind the brackets that end first
+abbrev pub offset_in : List Piece → Option Offset
+offset_in [] = None
+offset_in (piece.PlacesEnd offset ∷ p) = offset
+offset_in (y ∷ p) = offset_in p
+
+-- an offset that moves a place
+abbrev pub CanMove : Offset → Bool → ℕ → Type 0
+CanMove o back number = (1 ≤ o.days.value) × IsMovable number back o.days.value o.is_before
+
+-- Each place in brackets is moved by the offset behind them: in each text it can be. All other weekdays stay.
+abbrev pub IsMoved : Option Offset → Selector → Selector → Type 0
+IsMoved (Some o) (selector.Nth x) (selector.Moved y) =
+    (1 ≤ y.days) × (y.place ≡ x) × (y.is_back ≡ false) × (y.days ≡ o.days.value) × (y.is_before ≡ o.is_before)
+IsMoved (Some o) (selector.Nth x) y = (selector.Nth x ≡ y) × (CanMove o false x.number → ⊥)
+IsMoved (Some o) (selector.NthBack x) (selector.Moved y) =
+    (1 ≤ y.days) × (y.place ≡ x) × (y.is_back ≡ true) × (y.days ≡ o.days.value) × (y.is_before ≡ o.is_before)
+IsMoved (Some o) (selector.NthBack x) y = (selector.NthBack x ≡ y) × (CanMove o true x.number → ⊥)
+IsMoved o x y = x ≡ y
+
+abbrev pub AreMoved : Option Offset → List Selector → List Selector → Type 0
+AreMoved o [] [] = Unit {0}
+AreMoved o (x ∷ xs) (y ∷ ys) = IsMoved o x y × AreMoved o xs ys
+AreMoved o xs ys = ⊥
+
+-- pieces are these weekdays, one after another
+pub data AllWeekdays : List Piece → List Selector → Type 0 where
+  none : (p : List Piece) → (xs : List Selector) → p ≡ [] → xs ≡ [] → AllWeekdays p xs
+  more : (y : Piece) → (p q : List Piece) → (us xs ys zs : List Selector) → p ≡ y ∷ q → zs ≡ xs ++ ys → AreSelectors y us
+      → AreMoved (offset_in q) us xs → AllWeekdays q ys → AllWeekdays p zs
 
 -- ---- times
 
@@ -68,6 +104,7 @@ abbrev pub names_weekdays : Piece → Bool
 names_weekdays (piece.Weekdays first last) = true
 names_weekdays (piece.Places weekday first last) = true
 names_weekdays (piece.PlaceBack weekday number) = true
+names_weekdays (piece.PlacesEnd offset) = true
 names_weekdays x = false
 
 abbrev pub names_times : Piece → Bool
@@ -93,7 +130,7 @@ pub record IsRule (l : Link) (p : List Piece) (rule : Rule) : Type 0 where
   pub are_years : AllSelectors (filter names_years p) years
   pub are_month_days : AllSelectors (filter names_month_days p) month_days
   pub are_weeks : AllSelectors (filter names_weeks p) weeks
-  pub are_weekdays : AllSelectors (filter names_weekdays p) weekdays
+  pub are_weekdays : AllWeekdays (filter names_weekdays p) weekdays
   pub kinds : selectors rule.kinds.items ≡ kind_if years ++ kind_if month_days ++ kind_if weeks ++ kind_if weekdays
   pub times : AllTimes (filter names_times p) rule.times.items
   pub modifier : rule.modifier ≡ modifier_of (is_closed p)

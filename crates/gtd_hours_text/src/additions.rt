@@ -8,10 +8,11 @@ ghost use Rattle.gtd_hours_text.specs.Drafts.{IsAdded};
 ghost use Rattle.gtd_hours_text.specs.Standing.{begins_rule, names_month_days, names_weekdays, names_weeks, names_years};
 
 use crate::draft::Draft;
+use crate::offsets::with_moved;
 use crate::places::{with_each, with_one};
 use gtd_hours::{Selector, TimeRange, WeekdayPlace};
-use gtd_hours_parts::Part;
-use std::alloc::AllocError;
+use gtd_hours_parts::{Days, Part};
+use std::alloc::{AllocError, Global};
 
 // Years more.
 fn with_years(draft: Draft, selector: Selector) -> Result<Draft, AllocError>
@@ -44,8 +45,8 @@ fn with_weeks(draft: Draft, selector: Selector) -> Result<Draft, AllocError>
 fn with_weekdays(draft: Draft, selector: Selector) -> Result<Draft, AllocError>
     ensures { IfOk result (λ then. (y : Piece) → names_weekdays y ≡ true → IsSelector y selector → IsAdded draft y then) }
 {
-    let weekdays = with_one(draft.weekdays, selector)?;
-    Ok(Draft { weekdays, ..draft })
+    let unmoved = with_one(draft.unmoved, selector)?;
+    Ok(Draft { unmoved, ..draft })
 }
 
 // One selector more, of its kind.
@@ -70,8 +71,20 @@ fn with_selector(draft: Draft, selector: Selector) -> Result<Draft, AllocError>
 fn with_places(draft: Draft, first: WeekdayPlace, last: WeekdayPlace) -> Result<Draft, AllocError>
     ensures { IfOk result (λ then. (y : Piece) → IsPartOf (part.Places first last) y → IsAdded draft y then) }
 {
-    let weekdays = with_each(draft.weekdays, first, last)?;
-    Ok(Draft { weekdays, ..draft })
+    let unmoved = with_each(draft.unmoved, first, last)?;
+    Ok(Draft { unmoved, ..draft })
+}
+
+// The places in brackets end, and the offset behind them moves them.
+fn with_end(alloc: Global, draft: Draft, days: Option<Days>) -> Result<Draft, AllocError>
+    ensures { IfOk result (λ then. (y : Piece) → IsPartOf (part.PlacesEnd days) y → IsAdded draft y then) }
+{
+    let weekdays = with_moved(draft.weekdays, draft.unmoved, days)?;
+    Ok(Draft {
+        weekdays,
+        unmoved: Vec::new(alloc),
+        ..draft
+    })
 }
 
 // A range of times more.
@@ -84,7 +97,7 @@ fn with_times(draft: Draft, range: TimeRange) -> Result<Draft, AllocError>
 }
 
 /// The draft with one part more.
-pub fn with_part(draft: Draft, part: Part) -> Result<Draft, AllocError>
+pub fn with_part(alloc: Global, draft: Draft, part: Part) -> Result<Draft, AllocError>
     ensures { IfOk result (λ then. (y : Piece) → IsPartOf part y → begins_rule y ≡ false → IsAdded draft y then) }
 {
     match part {
@@ -92,6 +105,7 @@ pub fn with_part(draft: Draft, part: Part) -> Result<Draft, AllocError>
         Part::Kind => Ok(draft),
         Part::Selector(selector) => with_selector(draft, selector),
         Part::Places { first, last } => with_places(draft, first, last),
+        Part::PlacesEnd(days) => with_end(alloc, draft, days),
         Part::Times(range) => with_times(draft, range),
         Part::Closed => Ok(Draft {
             closed: true,

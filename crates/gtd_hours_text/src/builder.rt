@@ -45,10 +45,10 @@ fn with_rule(alloc: Global, so_far: Building, link: Link) -> Result<Building, Al
 }
 
 // The rule that is being read has one part more.
-fn with_more(so_far: Building, part: Part) -> Result<Building, AllocError>
+fn with_more(alloc: Global, so_far: Building, part: Part) -> Result<Building, AllocError>
     ensures { IfOk result (λ then. (y : Piece) → IsPartOf part y → begins_rule y ≡ false → Builds so_far y then) }
 {
-    let draft = with_part(so_far.draft, part)?;
+    let draft = with_part(alloc, so_far.draft, part)?;
     Ok(Building { draft, ..so_far })
 }
 
@@ -58,7 +58,7 @@ pub fn with_next(alloc: Global, so_far: Building, part: Part) -> Result<Building
 {
     match part {
         Part::Rule(link) => with_rule(alloc, so_far, link),
-        _ => with_more(so_far, part),
+        _ => with_more(alloc, so_far, part),
     }
 }
 

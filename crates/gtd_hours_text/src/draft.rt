@@ -5,6 +5,7 @@ ghost use Rattle.gtd_hours_parts.specs.declared.piece.Piece.{Piece};
 ghost use Rattle.gtd_hours_text.specs.Drafts.{IsDraft};
 ghost use Rattle.gtd_hours_text.specs.Standing.{IsRule, kind_if, modifier_of, selectors};
 
+use crate::offsets::with_moved;
 use gtd_hours::{Kind, Link, Modifier, Rule, Selector, TimeRange};
 use std::alloc::{AllocError, Global};
 
@@ -16,6 +17,8 @@ pub struct Draft {
     pub month_days: Vec<Selector>,
     pub weeks: Vec<Selector>,
     pub weekdays: Vec<Selector>,
+    /// Weekdays behind them, which an offset may still move.
+    pub unmoved: Vec<Selector>,
     pub times: Vec<TimeRange>,
     pub closed: bool,
 }
@@ -31,6 +34,7 @@ pub fn new_draft(alloc: Global, link: Link) -> Draft
         month_days: Vec::new(alloc),
         weeks: Vec::new(alloc),
         weekdays: Vec::new(alloc),
+        unmoved: Vec::new(alloc),
         times: Vec::new(alloc),
         closed: false,
     }
@@ -66,7 +70,8 @@ pub fn rule_of(alloc: Global, draft: Draft) -> Result<Rule, AllocError>
     let years = with_kind(none, draft.years)?;
     let month_days = with_kind(years, draft.month_days)?;
     let weeks = with_kind(month_days, draft.weeks)?;
-    let kinds = with_kind(weeks, draft.weekdays)?;
+    let weekdays = with_moved(draft.weekdays, draft.unmoved, None)?;
+    let kinds = with_kind(weeks, weekdays)?;
     Ok(Rule {
         link: draft.link,
         kinds,

@@ -8,6 +8,7 @@ mod additions;
 mod builder;
 mod draft;
 pub mod laws;
+mod offsets;
 mod places;
 mod reader;
 pub mod writing_laws;

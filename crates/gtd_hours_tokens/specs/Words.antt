@@ -3,7 +3,8 @@ use Rattle.std.specs.Prelude.{ℕ, Bool, ◌||◌, List, Option, Some, None, if�
 use Rattle.std.specs.Option.{option_or}
 use Rattle.std.specs.Cmp.Lexicographic.{pointwise}
 use Rattle.gtd_hours_tokens.specs.declared.token.TokenKind.{TokenKind}
-use Rattle.gtd_hours_tokens.specs.declared.token.TokenKind.TheVariants.{Month, Weekday, Week, Open, Closed, Unsupported}
+use Rattle.gtd_hours_tokens.specs.declared.token.TokenKind.TheVariants.{Month, Weekday, Week, Open, Closed, Day}
+use Rattle.gtd_hours_tokens.specs.declared.token.TokenKind.TheVariants.{Unsupported}
 
 -- The text is the word, byte for byte.
 abbrev pub is_word : List ℕ → List ℕ → Bool
@@ -40,9 +41,7 @@ weekday_of word =
 
 -- Words of OpenStreetMap that are not read here: of days, of the sun, and `unknown`.
 abbrev pub is_day_word : List ℕ → Bool
-is_day_word word =
-    is_word word (codes "PH") || is_word word (codes "SH") || is_word word (codes "easter") || is_word word (codes "day")
-    || is_word word (codes "days")
+is_day_word word = is_word word (codes "PH") || is_word word (codes "SH") || is_word word (codes "easter")
 
 abbrev pub is_sun_word : List ℕ → Bool
 is_sun_word word =
@@ -57,6 +56,7 @@ other_word word =
     if is_word word (codes "week") then Some Week
     else if is_word word (codes "open") || is_word word (codes "on") then Some Open
     else if is_word word (codes "closed") || is_word word (codes "off") then Some Closed
+    else if is_word word (codes "day") || is_word word (codes "days") then Some Day
     else if is_refused_word word then Some Unsupported
     else None
 

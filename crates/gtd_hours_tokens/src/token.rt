@@ -15,8 +15,10 @@ pub enum TokenKind {
     Open,
     /// `closed` or `off`
     Closed,
+    /// `day` or `days`
+    Day,
     /// A word or a sign that OpenStreetMap has and that is not read here: `PH`, `SH`, `easter`, `sunrise`, `sunset`, `dawn`,
-    /// `dusk`, `unknown`, `day`, `days`, `||`, or a comment from `"` to the next `"` or the end of the text.
+    /// `dusk`, `unknown`, `||`, or a comment from `"` to the next `"` or the end of the text.
     Unsupported,
     /// One to four digits.
     Number {

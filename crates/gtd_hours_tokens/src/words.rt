@@ -73,6 +73,8 @@ fn other_word(word: &[u8]) -> Option<TokenKind>
         Some(TokenKind::Open)
     } else if word == b"closed".as_slice() || word == b"off".as_slice() {
         Some(TokenKind::Closed)
+    } else if word == b"day".as_slice() || word == b"days".as_slice() {
+        Some(TokenKind::Day)
     } else if is_refused_word(word) {
         Some(TokenKind::Unsupported)
     } else {
@@ -89,11 +91,7 @@ fn is_refused_word(word: &[u8]) -> bool
 fn is_day_word(word: &[u8]) -> bool
     ensures { result ≡ is_day_word word.now }
 {
-    word == b"PH".as_slice()
-        || word == b"SH".as_slice()
-        || word == b"easter".as_slice()
-        || word == b"day".as_slice()
-        || word == b"days".as_slice()
+    word == b"PH".as_slice() || word == b"SH".as_slice() || word == b"easter".as_slice()
 }
 
 fn is_sun_word(word: &[u8]) -> bool

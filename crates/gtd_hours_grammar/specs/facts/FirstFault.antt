@@ -172,6 +172,9 @@ same_kind : (before : List TokenKind) (t : TokenKind) (a b : FaultKind) → IsMi
     → a ≡ b
 same_kind before token.Unsupported a b h k = h ∙ sym k
 same_kind before token.Plus a b h k = h ∙ sym k
+same_kind before token.Dash a b h k = h ∙ sym k
+same_kind before token.Day a b h k = h ∙ sym k
+same_kind before (token.Weekday w) a b h k = h ∙ sym k
 same_kind before (token.Number v d) fault.BadToken b h k = absurd h
 same_kind before (token.Number v d) fault.Unsupported b h k = absurd h
 same_kind before (token.Number v d) fault.Incomplete b h k = absurd h

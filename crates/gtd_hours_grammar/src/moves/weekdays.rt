@@ -7,6 +7,7 @@ ghost use Rattle.gtd_hours_grammar.specs.Runs.{IsGood};
 ghost use Rattle.gtd_hours_grammar.specs.Sound.{Fits, IsPlace};
 
 use crate::moves::moving::{complete, give, take, written};
+use crate::moves::offsets::{back_reach, front_reach};
 use crate::place::{Move, Place};
 use crate::stage::Stage;
 use gtd_hours_parts::{Digits, Piece};
@@ -20,7 +21,10 @@ pub fn weekday(day: u8, next: Option<TokenKind>) -> Option<Move>
 {
     match next {
         Some(TokenKind::Dash) => take(Place::WeekdayDash(day)),
-        Some(TokenKind::OpenBracket) => take(Place::Bracket(day)),
+        Some(TokenKind::OpenBracket) => take(Place::Bracket {
+            weekday: day,
+            reach: 28,
+        }),
         _ => give(
             Piece::Weekdays {
                 first: day,
@@ -52,29 +56,30 @@ pub fn weekday_dash(first: u8, next: Option<TokenKind>, fits: bool) -> Option<Mo
 }
 
 /// `We[`, and a comma in brackets
-pub fn bracket(weekday: u8, next: Option<TokenKind>, fits: bool) -> Option<Move>
-    requires sound { IsPlace (places.Bracket weekday) }
-    requires fit { fits ≡ true → Fits (places.Bracket weekday) next }
-    ensures computed { result ≡ bracket weekday next fits }
-    ensures good { IfSome result (λ move. IsGood (places.Bracket weekday) next move) }
+pub fn bracket(weekday: u8, reach: u16, next: Option<TokenKind>, fits: bool) -> Option<Move>
+    requires sound { IsPlace (places.Bracket weekday reach) }
+    requires fit { fits ≡ true → Fits (places.Bracket weekday reach) next }
+    ensures computed { result ≡ bracket weekday reach next fits }
+    ensures good { IfSome result (λ move. IsGood (places.Bracket weekday reach) next move) }
 {
     match next {
         Some(TokenKind::Number { value, digits }) if fits => take(Place::Nth {
             weekday,
             number: written(value, digits),
+            reach,
         }),
-        Some(TokenKind::Dash) => take(Place::BracketDash(weekday)),
+        Some(TokenKind::Dash) => take(Place::BracketDash { weekday, reach }),
         _ => None,
     }
 }
 
 /// `We[-`
 #[tactic(auto, using(crate::proofs::GoodItems::bracket_dash_good))]
-pub fn bracket_dash(weekday: u8, next: Option<TokenKind>, fits: bool) -> Option<Move>
-    requires sound { IsPlace (places.BracketDash weekday) }
-    requires fit { fits ≡ true → Fits (places.BracketDash weekday) next }
-    ensures computed { result ≡ bracket_dash weekday next fits }
-    ensures good { IfSome result (λ move. IsGood (places.BracketDash weekday) next move) }
+pub fn bracket_dash(weekday: u8, reach: u16, next: Option<TokenKind>, fits: bool) -> Option<Move>
+    requires sound { IsPlace (places.BracketDash weekday reach) }
+    requires fit { fits ≡ true → Fits (places.BracketDash weekday reach) next }
+    ensures computed { result ≡ bracket_dash weekday reach next fits }
+    ensures good { IfSome result (λ move. IsGood (places.BracketDash weekday reach) next move) }
 {
     match next {
         Some(TokenKind::Number { value, digits }) if fits => complete(
@@ -82,38 +87,54 @@ pub fn bracket_dash(weekday: u8, next: Option<TokenKind>, fits: bool) -> Option<
                 weekday,
                 number: written(value, digits),
             },
-            Place::BracketEnd(weekday),
+            Place::BracketEnd {
+                weekday,
+                reach: back_reach(reach, value),
+            },
         ),
         _ => None,
     }
 }
 
 /// `We[1`
-pub fn nth(weekday: u8, number: Digits, next: Option<TokenKind>) -> Option<Move>
-    requires sound { IsPlace (places.Nth weekday number) }
-    ensures computed { result ≡ nth weekday number next }
-    ensures good { IfSome result (λ move. IsGood (places.Nth weekday number) next move) }
+pub fn nth(weekday: u8, number: Digits, reach: u16, next: Option<TokenKind>) -> Option<Move>
+    requires sound { IsPlace (places.Nth weekday number reach) }
+    ensures computed { result ≡ nth weekday number reach next }
+    ensures good { IfSome result (λ move. IsGood (places.Nth weekday number reach) next move) }
 {
     match next {
-        Some(TokenKind::Dash) => take(Place::NthDash { weekday, number }),
+        Some(TokenKind::Dash) => take(Place::NthDash {
+            weekday,
+            number,
+            reach,
+        }),
         _ => give(
             Piece::Places {
                 weekday,
                 first: number,
                 last: None,
             },
-            Place::BracketEnd(weekday),
+            Place::BracketEnd {
+                weekday,
+                reach: front_reach(reach, number.value),
+            },
         ),
     }
 }
 
 /// `We[1-`
 #[tactic(auto, using(crate::proofs::GoodItems::nth_dash_good))]
-pub fn nth_dash(weekday: u8, first: Digits, next: Option<TokenKind>, fits: bool) -> Option<Move>
-    requires sound { IsPlace (places.NthDash weekday first) }
-    requires fit { fits ≡ true → Fits (places.NthDash weekday first) next }
-    ensures computed { result ≡ nth_dash weekday first next fits }
-    ensures good { IfSome result (λ move. IsGood (places.NthDash weekday first) next move) }
+pub fn nth_dash(
+    weekday: u8,
+    first: Digits,
+    reach: u16,
+    next: Option<TokenKind>,
+    fits: bool,
+) -> Option<Move>
+    requires sound { IsPlace (places.NthDash weekday first reach) }
+    requires fit { fits ≡ true → Fits (places.NthDash weekday first reach) next }
+    ensures computed { result ≡ nth_dash weekday first reach next fits }
+    ensures good { IfSome result (λ move. IsGood (places.NthDash weekday first reach) next move) }
 {
     match next {
         Some(TokenKind::Number { value, digits }) if fits => complete(
@@ -122,21 +143,24 @@ pub fn nth_dash(weekday: u8, first: Digits, next: Option<TokenKind>, fits: bool)
                 first,
                 last: Some(written(value, digits)),
             },
-            Place::BracketEnd(weekday),
+            Place::BracketEnd {
+                weekday,
+                reach: front_reach(reach, value),
+            },
         ),
         _ => None,
     }
 }
 
 /// `We[1-2`, `We[-1`
-pub fn bracket_end(weekday: u8, next: Option<TokenKind>) -> Option<Move>
-    requires sound { IsPlace (places.BracketEnd weekday) }
-    ensures computed { result ≡ bracket_end weekday next }
-    ensures good { IfSome result (λ move. IsGood (places.BracketEnd weekday) next move) }
+pub fn bracket_end(weekday: u8, reach: u16, next: Option<TokenKind>) -> Option<Move>
+    requires sound { IsPlace (places.BracketEnd weekday reach) }
+    ensures computed { result ≡ bracket_end weekday reach next }
+    ensures good { IfSome result (λ move. IsGood (places.BracketEnd weekday reach) next move) }
 {
     match next {
-        Some(TokenKind::Comma) => take(Place::Bracket(weekday)),
-        Some(TokenKind::CloseBracket) => take(Place::After(Stage::Weekdays)),
+        Some(TokenKind::Comma) => take(Place::Bracket { weekday, reach }),
+        Some(TokenKind::CloseBracket) => take(Place::PlacesEnd(reach)),
         _ => None,
     }
 }

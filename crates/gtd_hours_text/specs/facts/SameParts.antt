@@ -2,7 +2,7 @@
 use mathlib.Core.HLevel.{is_prop→PathP}
 use Rattle.std.proofs.Common.{◌≡◌}
 use Rattle.std.proofs.Props.{props}
-use Rattle.gtd_hours.specs.Ranges.{IsDatedRange, IsMonth, IsTimeRange, IsWeekday, IsWeekdayPlace, IsWeeks, IsYears}
+use Rattle.gtd_hours.specs.Ranges.{IsDatedRange, IsMonth, IsMovable, IsTimeRange, IsWeekday, IsWeekdayPlace, IsWeeks, IsYears}
 use Rattle.gtd_hours.specs.Ranges as ranges
 use Rattle.gtd_hours.specs.declared.hours.Dated.{Dated}
 use Rattle.gtd_hours.specs.declared.hours.Dates.{Dates}
@@ -13,6 +13,7 @@ use Rattle.gtd_hours.specs.declared.hours.TimeRange.{TimeRange}
 use Rattle.gtd_hours.specs.declared.hours.Weekdays.{Weekdays}
 use Rattle.gtd_hours.specs.declared.hours.Weeks.{Weeks}
 use Rattle.gtd_hours.specs.declared.hours.YearDate.{YearDate}
+use Rattle.gtd_hours.specs.declared.places.MovedPlace.{MovedPlace}
 use Rattle.gtd_hours.specs.declared.hours.Years.{Years}
 
 pub same_years : (x y : Years) → x.first ≡ y.first → x.last ≡ y.last → x.step ≡ y.step → x ≡ y
@@ -87,4 +88,15 @@ same_times x y begin last = λ i. record {
   begin = begin i;
   last = last i;
   in_range = is_prop→PathP (λ j. IsTimeRange (begin j) (last j)) (λ j. hlevel props) x.in_range y.in_range i;
+}
+
+pub same_moved : (x y : MovedPlace) → x.place ≡ y.place → x.is_back ≡ y.is_back → x.days ≡ y.days → x.is_before ≡ y.is_before
+    → x ≡ y
+same_moved x y place back days before = λ i. record {
+  place = place i;
+  is_back = back i;
+  days = days i;
+  is_before = before i;
+  in_range = is_prop→PathP (λ j. IsMovable (place j).number (back j) (days j) (before j)) (λ j. hlevel props) x.in_range
+      y.in_range i;
 }

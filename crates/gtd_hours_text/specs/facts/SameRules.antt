@@ -8,7 +8,7 @@ use Rattle.gtd_hours_parts.specs.declared.piece.Piece.{Piece}
 use Rattle.gtd_hours_parts.specs.declared.piece.Piece.TheVariants as piece
 use Rattle.gtd_hours_text.specs.Standing.{AreRules, IsRule, is_one_rule, kind_if, names_month_days, names_times, names_weekdays}
 use Rattle.gtd_hours_text.specs.Standing.{names_weeks, names_years, selectors}
-use Rattle.gtd_hours_text.specs.facts.SameSelectors.{one_selectors, one_times}
+use Rattle.gtd_hours_text.specs.facts.SameSelectors.{one_selectors, one_times, one_weekdays}
 
 pub record SameRule (one other : Rule) : Type 0 where
   pub kinds : selectors one.kinds.items ≡ selectors other.kinds.items
@@ -31,7 +31,7 @@ one_rule l p one other h k = record {
       (one_selectors (filter names_years p) h.years k.years h.are_years k.are_years)
       (one_selectors (filter names_month_days p) h.month_days k.month_days h.are_month_days k.are_month_days)
       (one_selectors (filter names_weeks p) h.weeks k.weeks h.are_weeks k.are_weeks)
-      (one_selectors (filter names_weekdays p) h.weekdays k.weekdays h.are_weekdays k.are_weekdays) ∙ sym k.kinds;
+      (one_weekdays (filter names_weekdays p) h.weekdays k.weekdays h.are_weekdays k.are_weekdays) ∙ sym k.kinds;
   times = one_times (filter names_times p) one.times.items other.times.items h.times k.times;
   modifier = h.modifier ∙ sym k.modifier;
   link = h.link ∙ sym k.link;

@@ -1,18 +1,24 @@
 -- A piece is the same selectors and times, whichever of them are taken.
-use Rattle.std.proofs.Common.{◌≡◌, ℕ, ◌+◌, List, [], ◌∷◌, ◌++◌, Option, Some, None, refl, sym, ap, subst, ◌∙◌, arith}
+use Rattle.std.proofs.Common.{◌≡◌, ℕ, ◌+◌, ◌≤◌, Bool, true, false, List, [], ◌∷◌, ◌++◌, Option, Some, None, refl, sym, ap}
+use Rattle.std.proofs.Common.{subst, ◌∙◌, arith}
+use Rattle.gtd_hours.specs.Ranges.{IsMovable}
 use Rattle.gtd_hours.specs.declared.hours.MonthDay.{MonthDay}
 use Rattle.gtd_hours.specs.declared.hours.Selector.{Selector}
 use Rattle.gtd_hours.specs.declared.hours.Selector.TheVariants as selector
 use Rattle.gtd_hours.specs.declared.hours.TimeRange.{TimeRange}
+use Rattle.gtd_hours.specs.declared.hours.WeekdayPlace.{WeekdayPlace}
 use Rattle.gtd_hours.specs.declared.hours.YearDate.{YearDate}
+use Rattle.gtd_hours.specs.declared.places.MovedPlace.{MovedPlace}
 use Rattle.gtd_hours_parts.specs.declared.digits.Digits.{Digits}
 use Rattle.gtd_hours_parts.specs.declared.piece.LastDate.{LastDate}
+use Rattle.gtd_hours_parts.specs.declared.piece.Offset.{Offset}
 use Rattle.gtd_hours_parts.specs.declared.piece.Piece.{Piece}
 use Rattle.gtd_hours_parts.specs.declared.piece.Piece.TheVariants as piece
 use Rattle.gtd_hours_parts.specs.declared.piece.WrittenDate.{WrittenDate}
 use Rattle.gtd_hours_text.specs.Standing.{AllSelectors, AllTimes, AreDates, ArePlaces, AreSelectors, IsMonthDay, IsPlace}
-use Rattle.gtd_hours_text.specs.Standing.{IsSelector, IsYearDate}
-use Rattle.gtd_hours_text.specs.facts.SameParts.{same_dated, same_dates, same_month_day, same_months, same_place, same_times}
+use Rattle.gtd_hours_text.specs.Standing.{AllWeekdays, AreMoved, CanMove, IsMoved, IsSelector, IsYearDate, offset_in}
+use Rattle.gtd_hours_text.specs.facts.SameParts.{same_dated, same_dates, same_month_day, same_months, same_moved, same_place}
+use Rattle.gtd_hours_text.specs.facts.SameParts.{same_times}
 use Rattle.gtd_hours_text.specs.facts.SameParts.{same_weekdays, same_weeks, same_year_date, same_years}
 
 one_month_day : (x y : MonthDay) (month day : ℕ) → IsMonthDay x month day → IsMonthDay y month day → x ≡ y
@@ -69,6 +75,7 @@ one_places weekday first last xs ys (ArePlaces.place a b x us c le e is go) (Are
 
 pub one_list : (p : Piece) (xs ys : List Selector) → AreSelectors p xs → AreSelectors p ys → xs ≡ ys
 one_list (piece.Places weekday first last) xs ys h k = one_places weekday first.value _ xs ys h k
+one_list (piece.PlacesEnd offset) xs ys h k = h ∙ sym k
 one_list p (x ∷ []) (y ∷ []) h k = ap (λ (z : Selector). z ∷ []) (one_selector p x y h k)
 one_list p (x ∷ []) ys h k = absurd k
 one_list p xs ys h k = absurd h
@@ -84,6 +91,72 @@ one_selectors p xs ys (AllSelectors.more x a q us vs b e f are go) (AllSelectors
     let first : us ≡ ws = one_list y us ws (subst (λ (o : Piece). AreSelectors o us) head are) too in
     let later : vs ≡ zs = one_selectors q vs zs go (subst (λ (o : List Piece). AllSelectors o zs) (sym tail) rest) in
     f ∙ ap (λ (o : List Selector). o ++ vs) first ∙ ap (λ (o : List Selector). ws ++ o) later ∙ sym h
+
+-- ---- weekdays, as offsets move them
+
+can_move : (o : Offset) (back : Bool) (x : WeekdayPlace) (y : MovedPlace) → 1 ≤ y.days → y.place ≡ x → y.is_back ≡ back
+    → y.days ≡ o.days.value → y.is_before ≡ o.is_before → CanMove o back x.number
+can_move o back x y some place same days before = (
+  subst (λ (n : ℕ). 1 ≤ n) days some,
+  subst (λ (b : Bool). IsMovable x.number back o.days.value b) before
+      (subst (λ (n : ℕ). IsMovable x.number back n y.is_before) days
+      (subst (λ (b : Bool). IsMovable x.number b y.days y.is_before) same
+      (subst (λ (z : WeekdayPlace). IsMovable z.number y.is_back y.days y.is_before) place y.in_range))),
+)
+
+two_moved : (x : WeekdayPlace) (o : Offset) (back : Bool) (y z : MovedPlace) → y.place ≡ x → y.is_back ≡ back
+    → y.days ≡ o.days.value → y.is_before ≡ o.is_before → z.place ≡ x → z.is_back ≡ back → z.days ≡ o.days.value
+    → z.is_before ≡ o.is_before → selector.Moved y ≡ selector.Moved z
+two_moved x o back y z a b d e f g h k = ap selector.Moved (same_moved y z (a ∙ sym f) (b ∙ sym g) (d ∙ sym h) (e ∙ sym k))
+
+front_moved : (o : Offset) (x : WeekdayPlace) (y z : Selector) → IsMoved (Some o) (selector.Nth x) y
+    → IsMoved (Some o) (selector.Nth x) z → y ≡ z
+front_moved o x (selector.Moved y) (selector.Moved z) h k =
+    two_moved x o false y z h.1 h.2 h.3 h.4 k.1 k.2 k.3 k.4
+front_moved o x (selector.Moved y) z h k = absurd (k.1 (can_move o false x y h.0 h.1 h.2 h.3 h.4))
+front_moved o x y (selector.Moved z) h k = absurd (h.1 (can_move o false x z k.0 k.1 k.2 k.3 k.4))
+front_moved o x y z h k = sym h.0 ∙ k.0
+
+back_moved : (o : Offset) (x : WeekdayPlace) (y z : Selector) → IsMoved (Some o) (selector.NthBack x) y
+    → IsMoved (Some o) (selector.NthBack x) z → y ≡ z
+back_moved o x (selector.Moved y) (selector.Moved z) h k =
+    two_moved x o true y z h.1 h.2 h.3 h.4 k.1 k.2 k.3 k.4
+back_moved o x (selector.Moved y) z h k = absurd (k.1 (can_move o true x y h.0 h.1 h.2 h.3 h.4))
+back_moved o x y (selector.Moved z) h k = absurd (h.1 (can_move o true x z k.0 k.1 k.2 k.3 k.4))
+back_moved o x y z h k = sym h.0 ∙ k.0
+
+one_moved : (o : Option Offset) (x y z : Selector) → IsMoved o x y → IsMoved o x z → y ≡ z
+one_moved (Some o) (selector.Nth x) y z h k = front_moved o x y z h k
+one_moved (Some o) (selector.NthBack x) y z h k = back_moved o x y z h k
+one_moved (Some o) x y z h k = sym h ∙ k
+one_moved None x y z h k = sym h ∙ k
+
+one_moved_list : (o : Option Offset) (us xs ys : List Selector) → AreMoved o us xs → AreMoved o us ys → xs ≡ ys
+one_moved_list o [] [] [] h k = refl
+one_moved_list o (u ∷ us) (x ∷ xs) (y ∷ ys) h k =
+    ap (λ (z : Selector). z ∷ xs) (one_moved o u x y h.0 k.0)
+    ∙ ap (λ (l : List Selector). y ∷ l) (one_moved_list o us xs ys h.1 k.1)
+one_moved_list o [] [] (y ∷ ys) h k = absurd k
+one_moved_list o (u ∷ us) (x ∷ xs) [] h k = absurd k
+one_moved_list o us xs ys h k = absurd h
+
+pub one_weekdays : (p : List Piece) (xs ys : List Selector) → AllWeekdays p xs → AllWeekdays p ys → xs ≡ ys
+one_weekdays p xs ys (AllWeekdays.none a b e f) (AllWeekdays.none c d g h) = f ∙ sym h
+one_weekdays p xs ys (AllWeekdays.none a b e f) (AllWeekdays.more y c q us ms vs d g h are at go) = absurd cc
+one_weekdays p xs ys (AllWeekdays.more y c q us ms vs d g h are at go) (AllWeekdays.none a b e f) = absurd cc
+one_weekdays p xs ys (AllWeekdays.more x a q us ms vs b e f are at go) (AllWeekdays.more y c r ws bs zs d g h too bt rest) =
+    let all : x ∷ q ≡ y ∷ r = sym e ∙ g in
+    let head : x ≡ y = cc in
+    let tail : q ≡ r = cc in
+    let first : us ≡ ws = one_list y us ws (subst (λ (o : Piece). AreSelectors o us) head are) too in
+    let here : AreMoved (offset_in r) ws ms =
+    subst (λ (l : List Selector). AreMoved (offset_in r) l ms) first
+    (subst (λ (l : List Piece). AreMoved (offset_in l) us ms) tail at) in
+    let moved : ms ≡ bs = one_moved_list (offset_in r) ws ms bs here bt in
+    let later : vs ≡ zs = one_weekdays q vs zs go (subst (λ (o : List Piece). AllWeekdays o zs) (sym tail) rest) in
+    f ∙ ap (λ (o : List Selector). o ++ vs) moved ∙ ap (λ (o : List Selector). bs ++ o) later ∙ sym h
+
+-- ---- times
 
 pub one_times : (p : List Piece) (xs ys : List TimeRange) → AllTimes p xs → AllTimes p ys → xs ≡ ys
 one_times [] [] [] h k = refl

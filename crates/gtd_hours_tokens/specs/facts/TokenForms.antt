@@ -16,7 +16,7 @@ use Rattle.gtd_hours_tokens.specs.declared.token.TokenKind.{TokenKind}
 use Rattle.gtd_hours_tokens.specs.declared.token.TokenKind.TheVariants.{Month, Weekday, Week, Open, Closed, Unsupported, Number}
 use Rattle.gtd_hours_tokens.specs.declared.token.TokenKind.TheVariants.{Time}
 use Rattle.gtd_hours_tokens.specs.declared.token.TokenKind.TheVariants.{Comma, Semicolon, Dash, Slash, Colon, OpenBracket}
-use Rattle.gtd_hours_tokens.specs.declared.token.TokenKind.TheVariants.{CloseBracket, Plus}
+use Rattle.gtd_hours_tokens.specs.declared.token.TokenKind.TheVariants.{CloseBracket, Day, Plus}
 use Rattle.gtd_hours_tokens.specs.Words.{word_of}
 use Rattle.gtd_hours_tokens.specs.Lexing.{begins, IsRun, begins_minutes, is_no_quote, IsSign, IsTokenText, word, number, time}
 use Rattle.gtd_hours_tokens.specs.Lexing.{sign}
@@ -111,6 +111,7 @@ sign_is (Weekday n) byte rest e = absurd e
 sign_is Week byte rest e = absurd e
 sign_is Open byte rest e = absurd e
 sign_is Closed byte rest e = absurd e
+sign_is Day byte rest e = absurd e
 sign_is (Number value digits) byte rest e = absurd e
 sign_is (Time hour minute) byte rest e = absurd e
 

@@ -5,4 +5,5 @@ use Rattle.gtd_hours_text.proofs.additions.with_month_days.Goals as goal
 pub returns : goal.returns
 returns c = λ y names is.
     month_days_added c.args.draft y c.in_ok-month_days.month_days names
-    (one_selector c.args.draft.month_days.items c.in_ok-month_days.month_days.items y c.args.selector c.in_ok-month_days.ensures is)
+    (one_selector c.args.draft.month_days.items c.in_ok-month_days.month_days.items y c.args.selector
+    c.in_ok-month_days.ensures is)

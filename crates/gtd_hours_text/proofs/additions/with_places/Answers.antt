@@ -3,4 +3,4 @@ use Rattle.gtd_hours_text.proofs.AddingLemmas.{places_added}
 use Rattle.gtd_hours_text.proofs.additions.with_places.Goals as goal
 
 pub returns : goal.returns
-returns c = places_added c.args.draft c.args.first c.args.last c.in_ok-weekdays.weekdays c.in_ok-weekdays.ensures
+returns c = places_added c.args.draft c.args.first c.args.last c.in_ok-unmoved.unmoved c.in_ok-unmoved.ensures

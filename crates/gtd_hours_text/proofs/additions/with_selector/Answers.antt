@@ -13,11 +13,13 @@ returns-in-Months c =
 
 pub returns-in-Dates : goal.returns-in-Dates
 returns-in-Dates c =
-    of_kind names_month_days c.args.draft c.args.selector c.with_month_days-in-Dates.result (λ y. cc) c.with_month_days-in-Dates.ensures
+    of_kind names_month_days c.args.draft c.args.selector c.with_month_days-in-Dates.result (λ y. cc)
+    c.with_month_days-in-Dates.ensures
 
 pub returns-in-Dated : goal.returns-in-Dated
 returns-in-Dated c =
-    of_kind names_month_days c.args.draft c.args.selector c.with_month_days-in-Dated.result (λ y. cc) c.with_month_days-in-Dated.ensures
+    of_kind names_month_days c.args.draft c.args.selector c.with_month_days-in-Dated.result (λ y. cc)
+    c.with_month_days-in-Dated.ensures
 
 pub returns-in-Weeks : goal.returns-in-Weeks
 returns-in-Weeks c =
@@ -33,7 +35,8 @@ returns-in-Nth c =
 
 pub returns-in-NthBack : goal.returns-in-NthBack
 returns-in-NthBack c =
-    of_kind names_weekdays c.args.draft c.args.selector c.with_weekdays-in-NthBack.result (λ y. cc) c.with_weekdays-in-NthBack.ensures
+    of_kind names_weekdays c.args.draft c.args.selector c.with_weekdays-in-NthBack.result (λ y. cc)
+    c.with_weekdays-in-NthBack.ensures
 
 pub returns-in-Moved : goal.returns-in-Moved
 returns-in-Moved c =

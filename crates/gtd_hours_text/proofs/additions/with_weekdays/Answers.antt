@@ -1,8 +1,8 @@
--- A range of weekdays, or a weekday at a place, comes last among the weekdays of the draft, and all else of it stays.
-use Rattle.gtd_hours_text.proofs.AddingLemmas.{one_selector, weekdays_added}
+-- A range of weekdays, or a weekday at a place, comes last among those that an offset may move, and all else of the draft stays.
+use Rattle.gtd_hours_text.proofs.AddingLemmas.{no_end, one_selector, weekdays_added}
 use Rattle.gtd_hours_text.proofs.additions.with_weekdays.Goals as goal
 
 pub returns : goal.returns
 returns c = λ y names is.
-    weekdays_added c.args.draft y c.in_ok-weekdays.weekdays names
-    (one_selector c.args.draft.weekdays.items c.in_ok-weekdays.weekdays.items y c.args.selector c.in_ok-weekdays.ensures is)
+    weekdays_added c.args.draft y c.in_ok-unmoved.unmoved names (no_end y c.args.selector is)
+    (one_selector c.args.draft.unmoved.items c.in_ok-unmoved.unmoved.items y c.args.selector c.in_ok-unmoved.ensures is)

@@ -15,7 +15,7 @@ returns c = λ p is.
     } in
     let kinds = four_kinds c.new-none.result.items c.in_ok-years.years.items c.in_ok-month_days.month_days.items
     c.in_ok-weeks.weeks.items c.in_ok-kinds.kinds.items (kind_if c.args.draft.years.items)
-    (kind_if c.args.draft.month_days.items) (kind_if c.args.draft.weeks.items) (kind_if c.args.draft.weekdays.items)
+    (kind_if c.args.draft.month_days.items) (kind_if c.args.draft.weeks.items) (kind_if c.in_ok-weekdays.weekdays.items)
     c.new-none.ensures.items c.in_ok-years.ensures c.in_ok-month_days.ensures c.in_ok-weeks.ensures
     c.in_ok-kinds.ensures in
-    ruled p c.args.draft rule is refl kinds refl c.modifier_of.ensures
+    ruled p c.args.draft rule c.in_ok-weekdays.weekdays.items c.in_ok-weekdays.ensures is refl kinds refl c.modifier_of.ensures

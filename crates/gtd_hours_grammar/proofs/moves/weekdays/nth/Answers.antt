@@ -3,4 +3,6 @@ use Rattle.gtd_hours_grammar.proofs.GoodItems.{nth_good}
 use Rattle.gtd_hours_grammar.proofs.moves.weekdays.nth.Goals as goal
 
 pub returns-in_default-clause-good : goal.returns-in_default-clause-good
-returns-in_default-clause-good c = rw (c.give.ensures) (nth_good c.args.weekday c.args.number c.args.next c.requires.sound)
+returns-in_default-clause-good c =
+    rw (c.give.ensures) (rw (c.front_reach.ensures)
+    (nth_good c.args.weekday c.args.number c.args.reach c.args.next c.requires.sound))
