@@ -126,9 +126,10 @@ def unwrapped(text, place):
     short, at = trimmed(text, place)
     if not short.startswith("("):
         return text, place
-    depth = 0
+    depth, quoted = 0, False
     for number, sign in enumerate(short):
-        depth += {"(": 1, ")": -1}.get(sign, 0)
+        quoted ^= sign == '"'
+        depth += 0 if quoted else {"(": 1, ")": -1}.get(sign, 0)
         if depth == 0:
             return (short[1:-1], at + 1) if number == len(short) - 1 else (text, place)
     return text, place
@@ -192,7 +193,7 @@ def read_term(text, place, means, options, warnings):
         if short not in means.conditions:
             raise Fault("Condition", at)
         return Term(means.conditions[short], None, [], short)
-    return read_hours(*unwrapped(text, place), options, warnings)
+    return read_hours(*unwrapped(short, at), options, warnings)
 
 
 def read_terms(text, place, means, options, warnings):
@@ -223,10 +224,10 @@ def read_value(key, text, means, options, warnings):
         warnings.append(f"Loose at {whole[-1][1] - 1}")
         whole.pop()
     for piece, place in whole:
-        cut = split(piece, re.compile("@"))
-        if len(cut) < 2:
+        name, sign, condition = piece.partition("@")
+        if not sign:
             raise Fault("Part", trimmed(piece, place)[1])
-        pieces.append((trimmed(cut[0][0], place), (piece[cut[1][1]:], place + cut[1][1])))
+        pieces.append((trimmed(name, place), (condition, place + len(name) + 1)))
     for (name, at), condition in pieces:
         value = closes(name, key, at, means)
         parts.append((name, Part(value, read_terms(*unwrapped(*condition), means, options, warnings))))

@@ -1,0 +1,4 @@
+pub mod PartSteps
+pub mod PieceFacts
+pub mod TermSteps
+pub mod ValueSteps
