@@ -245,7 +245,7 @@ def keys_of(mode):
 def read_tags(tags, means, options):
     """What each key says, as parts; a key without a condition has one without terms. With the mended values, the warnings and
     the faults, by rows from 1."""
-    says, mended, told, faults = {}, [], [], []
+    says, mended, told, faults, seen = {}, [], [], [], set()
     keys = {key + end for mode in means.modes for key in keys_of(mode).values() for end in ("", CONDITIONAL)}
     for row, (key, text) in enumerate(tags, 1):
         warnings = []
@@ -255,8 +255,9 @@ def read_tags(tags, means, options):
                 if key.endswith(CONDITIONAL) and name not in means.ignored:
                     raise Fault("Key", None)
                 continue
-            if key in says:
+            if key in seen:
                 raise Fault("Repeated", None)
+            seen.add(key)
             if key.endswith(CONDITIONAL):
                 says[key], form = read_value(key, text, means, options, warnings)
                 mended.append(form)

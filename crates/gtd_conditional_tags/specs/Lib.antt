@@ -1,0 +1,7 @@
+pub mod Keys
+pub mod Rows
+pub mod File
+pub mod Groups
+pub mod FaultTexts
+pub mod TakenRows
+pub use Rattle.gtd_records.specs.Columns
