@@ -3,7 +3,7 @@
 ghost use Rattle.std.specs.Prelude.{◌≡◌, length, true};
 ghost use Rattle.std.specs.Char.{is_ascii_digit};
 ghost use Rattle.std.specs.List.{list_all};
-ghost use Rattle.std.specs.Str.Parse.{digits_value, two_digits_value};
+ghost use Rattle.std.specs.Str.Parse.{digits_value};
 ghost use Rattle.gtd_hours_tokens.specs.Lexing.{begins_minutes};
 ghost use Rattle.gtd_hours_tokens.specs.TokenAt.{number, number_front, time, time_front};
 
