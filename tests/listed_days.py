@@ -85,7 +85,7 @@ def run(questions):
         os.makedirs(f"{crate}/src")
         shutil.copy(f"{TOP}/tests/holidays/main.rattle", f"{crate}/src/main.rt")
         with open(f"{TOP}/crates.txt") as source, open(f"{work}/crates.txt", "w") as copy:
-            copy.write(source.read() + "listed_days: gtd_core gtd_text gtd_hours_domain gtd_hours_holidays gtd_hours_days\n")
+            copy.write(source.read() + "listed_days: gtd_core gtd_text gtd_hours_leaves gtd_hours_holidays gtd_hours_days\n")
         return subprocess.run(["rt", "try"], cwd=crate, input="".join(questions), capture_output=True, text=True).stdout
 
 

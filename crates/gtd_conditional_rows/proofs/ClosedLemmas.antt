@@ -9,8 +9,8 @@ use Rattle.gtd_calendar.specs.declared.day.DayFields.{DayFields}
 use Rattle.gtd_recur.specs.FieldMatches.{HoldsOnDay}
 use Rattle.gtd_eval.specs.Membership.{InTree}
 use Rattle.gtd_eval.specs.facts.TreeDecisions.{in_tree}
-use Rattle.gtd_hours_domain.specs.declared.clock.Clock.{Clock}
-use Rattle.gtd_hours_domain.proofs.LeafLemmas.{each-days}
+use Rattle.gtd_hours_leaves.specs.declared.clock.Clock.{Clock}
+use Rattle.gtd_hours_leaves.specs.facts.LeafFacts.{each-days}
 use Rattle.gtd_conditional_rows.specs.Steps.{HoursHold, IsClosed, NoneApplies}
 use Rattle.gtd_conditional_rows.specs.Times.{Times, Never, Always, Within, InTimes, every_day, said, times_after, times_by}
 use Rattle.gtd_conditional_rows.specs.Times.{times_of}

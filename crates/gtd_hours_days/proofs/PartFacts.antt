@@ -12,8 +12,8 @@ use Rattle.gtd_calendar.specs.ComputedFields.{day_fields}
 use Rattle.gtd_calendar.specs.facts.DateLemmas.{date_of-is, date_of-only, month_length_bounds}
 use Rattle.gtd_calendar.specs.facts.YearLemmas.{year_of-is}
 use Rattle.gtd_recur.specs.FieldMatches.{HoldsOnDay}
-use Rattle.gtd_hours_domain.specs.Translation.{AreDayParts, HasNumberWithin}
-use Rattle.gtd_hours_domain.specs.declared.level.Level.TheVariants.{Year}
+use Rattle.gtd_hours_leaves.specs.Leaves.{AreDayParts, HasNumberWithin}
+use Rattle.gtd_hours_leaves.specs.declared.level.Level.TheVariants.{Year}
 use Rattle.gtd_hours_holidays.specs.KnownYears.{IsOfYears}
 use Rattle.gtd_hours_holidays.specs.declared.run.Run.{Run}
 use Rattle.gtd_hours_days.specs.Groups.{IsMonthDayOf, IsOfGroup, groups_cost}

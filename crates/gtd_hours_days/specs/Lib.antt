@@ -8,7 +8,7 @@ pub use Rattle.gtd_core.specs.Limits
 pub use Rattle.gtd_core.specs.Trees
 pub use Rattle.gtd_calendar.specs.Calendar
 pub use Rattle.gtd_eval.specs.Membership
-pub use Rattle.gtd_hours_domain.specs.Translation
+pub use Rattle.gtd_hours_leaves.specs.Leaves
 pub use Rattle.gtd_hours_holidays.specs.Days
 pub use Rattle.gtd_hours_holidays.specs.KnownYears
 pub use Rattle.gtd_hours_holidays.specs.Runs

@@ -3,7 +3,7 @@ use Rattle.std.specs.Prelude.{◌↔◌, ◌<◌, ◌≤◌, ℕ, List, Result, 
 use Rattle.gtd_core.specs.Limits.{most_basic_domains}
 use Rattle.gtd_core.specs.Trees.{leaf_count, tree_of}
 use Rattle.gtd_core.specs.declared.domain.Expr.{Expr}
-use Rattle.gtd_hours_domain.specs.Translation.{AreDays}
+use Rattle.gtd_hours_leaves.specs.Leaves.{AreDays}
 use Rattle.gtd_hours_holidays.specs.Days.{IsIn}
 use Rattle.gtd_hours_holidays.specs.declared.days.Days.{Days}
 use Rattle.gtd_hours_holidays.specs.declared.holidays.Holidays.{Holidays}

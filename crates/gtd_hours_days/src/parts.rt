@@ -5,7 +5,7 @@ ghost use Rattle.gtd_core.specs.Trees.{leaf_count, tree_of};
 ghost use Rattle.gtd_calendar.specs.Calendar.{IsCalendarDay};
 ghost use Rattle.gtd_calendar.specs.ComputedDates.{year_of};
 ghost use Rattle.gtd_eval.specs.Membership.{InTree};
-ghost use Rattle.gtd_hours_domain.specs.Translation.{AreDays, InMaybe, maybe_leaves, minutes_of, moved_day};
+ghost use Rattle.gtd_hours_leaves.specs.Leaves.{AreDays, InMaybe, maybe_leaves, minutes_of, moved_day};
 ghost use Rattle.gtd_hours_holidays.specs.KnownYears.{IsOfYears};
 ghost use Rattle.gtd_hours_days.specs.Groups.{IsOfGroup, groups_cost, grouping_cost};
 ghost use Rattle.gtd_hours_days.specs.Parts.{AreShort, IsOfRun, IsShort, IsWritten, SomeGroup, SomeRun};
@@ -13,8 +13,8 @@ ghost use Rattle.gtd_hours_days.specs.Parts.{AreShort, IsOfRun, IsShort, IsWritt
 use crate::group::Group;
 use gtd_calendar::fields;
 use gtd_core::{Expr, Op, StartParts};
-use gtd_hours_domain::{Clock, NO_PARTS, each_days, join, or_nothing, unite, year_run};
 use gtd_hours_holidays::{KnownYears, Run};
+use gtd_hours_leaves::{Clock, NO_PARTS, each_days, join, or_nothing, unite, year_run};
 use std::alloc::{AllocError, Global};
 
 // The days of a group.

@@ -2,7 +2,7 @@
 
 ghost use Rattle.std.specs.Prelude.{◌≡◌, ◌↔◌, ℤ, IfOk};
 ghost use Rattle.gtd_core.specs.Trees.{leaf_count, tree_of};
-ghost use Rattle.gtd_hours_domain.specs.Translation.{AreDays, minutes_of};
+ghost use Rattle.gtd_hours_leaves.specs.Leaves.{AreDays, minutes_of};
 ghost use Rattle.gtd_hours_holidays.specs.Days.{IsIn};
 ghost use Rattle.gtd_hours_days.specs.Listed.{SomeListed};
 ghost use Rattle.gtd_hours_days.specs.Selections.{AreSelected, IsSelection};
@@ -12,8 +12,8 @@ use crate::coverage::{Uncovered, first_uncovered};
 use crate::listed::Listed;
 use crate::set::{DaysFault, days_expr};
 use gtd_core::Expr;
-use gtd_hours_domain::Clock;
 use gtd_hours_holidays::{Days, HolidayRow, Holidays, KnownYears};
+use gtd_hours_leaves::Clock;
 use std::alloc::{AllocError, Global};
 
 /// Why selectors have no days, or no expression.

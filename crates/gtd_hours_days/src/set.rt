@@ -3,7 +3,7 @@
 ghost use Rattle.std.specs.Prelude.{◌≡◌, ◌<◌, ◌≤◌, ℤ, IfOk, Result, Ok, Err};
 ghost use Rattle.gtd_core.specs.Limits.{most_basic_domains};
 ghost use Rattle.gtd_core.specs.Trees.{leaf_count, tree_of};
-ghost use Rattle.gtd_hours_domain.specs.Translation.{AreDays, minutes_of};
+ghost use Rattle.gtd_hours_leaves.specs.Leaves.{AreDays, minutes_of};
 ghost use Rattle.gtd_hours_holidays.specs.Days.{IsIn};
 ghost use Rattle.gtd_hours_days.specs.Groups.{IsGrouping};
 ghost use Rattle.gtd_hours_days.specs.Parts.{IsNear};
@@ -13,8 +13,8 @@ use crate::grouping::grouping_of;
 use crate::parts::written_days;
 use gtd_core::Expr;
 use gtd_core::limits::MOST_BASIC_DOMAINS;
-use gtd_hours_domain::Clock;
 use gtd_hours_holidays::{Days, KnownYears};
+use gtd_hours_leaves::Clock;
 use std::alloc::{AllocError, Global};
 
 /// Why a set of days is no expression.

@@ -11,7 +11,7 @@ use Rattle.gtd_recur.specs.FieldMatches.{HoldsOnDay}
 use Rattle.gtd_hours_domain.specs.Translation.{EachHoldsAt}
 use Rattle.gtd_hours.specs.Opening.{EachHolds, IsRound, Matches}
 use Rattle.gtd_hours.specs.declared.hours.Kind.{Kind}
-use Rattle.gtd_hours_domain.proofs.WeekLemmas.{weekday-range}
+use Rattle.gtd_hours.specs.facts.PlaceFacts.{weekday-in}
 
 -- the weekdays of a range
 abbrev pub with_weekdays : ℕ → StartParts
@@ -21,7 +21,7 @@ pub weekdays-hold : (bits first last : ℕ) → 0 < bits
     → ((k : ℕ) → 1 ≤ k → k ≤ 7 → (bits / 2 ^ (k - 1) % 2 ≡ 1) ↔ IsRound first last k)
     → (n : ℤ) → HoldsOnDay (with_weekdays bits) (day_fields n) ↔ IsRound first last (weekday_of n)
 weekdays-hold bits first last some each n =
-    let k = weekday-range n in
+    let k = weekday-in n in
     let same = each (weekday_of n) k.0 k.1 in (
       (λ x. elim (x.weekdays) [ inl none ↦ absurd (omega (arith, none, some)) | inr one ↦ same.0 one ]),
       (λ y. record { year = tt; month = tt; week = tt; day = tt; nth = tt; nth_back = tt; weekdays = inr (same.1 y) }),

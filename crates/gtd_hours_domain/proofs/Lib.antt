@@ -2,12 +2,9 @@
 pub mod CostLemmas
 pub mod DateLemmas
 pub mod DayLemmas
-pub mod LeafLemmas
 pub mod MonthLemmas
 pub mod MovingLemmas
-pub mod PieceLemmas
 pub mod PlaceLemmas
 pub mod RangeLemmas
 pub mod SpanLemmas
 pub mod StretchLemmas
-pub mod WeekLemmas

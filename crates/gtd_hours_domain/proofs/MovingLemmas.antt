@@ -16,8 +16,8 @@ use Rattle.gtd_calendar.specs.facts.MonthLemmas.{month_first, month_first-next}
 use Rattle.gtd_recur.specs.FieldMatches.{HoldsOnDay}
 use Rattle.gtd_eval.specs.Membership.{InTree}
 use Rattle.gtd_hours.specs.ComputedPlaces.{end_day}
-use Rattle.gtd_hours.specs.Moving.{IsInMoving, IsMovedFrom, IsMoving, days_on, day_from, end_days, end_month, is_yearly, last_year}
-use Rattle.gtd_hours.specs.Moving.{months_between, weeks_back}
+use Rattle.gtd_hours.specs.Moving.{IsInMoving, IsMovedFrom, IsMoving, days_on, day_from, end_days, end_month, is_yearly}
+use Rattle.gtd_hours.specs.Moving.{last_year, months_between, weeks_back}
 use Rattle.gtd_hours.specs.Ranges.{IsMonth}
 use Rattle.gtd_hours.specs.declared.hours.MonthDay.{MonthDay}
 use Rattle.gtd_hours.specs.declared.places.End.{End}
@@ -27,13 +27,15 @@ use Rattle.gtd_hours.specs.declared.places.MovedPlace.{MovedPlace}
 use Rattle.gtd_hours.specs.declared.moving.Moving.{Moving}
 use Rattle.gtd_hours.specs.facts.OrderFacts.{order-to}
 use Rattle.gtd_hours.specs.facts.PlaceFacts.{end-is, end-only}
-use Rattle.gtd_hours_domain.specs.Translation.{HasPlace, IsFrom, clocked, minutes_of, moved_day, no_duration, on_back, on_month_day}
+use Rattle.gtd_hours_domain.specs.Translation.{HasPlace, IsFrom, on_back, on_month_day}
+use Rattle.gtd_hours_leaves.specs.Leaves.{clocked, minutes_of, moved_day, no_duration}
 use Rattle.gtd_hours_domain.specs.Translation.{on_number, start_day}
-use Rattle.gtd_hours_domain.specs.declared.clock.Clock.{Clock}
+use Rattle.gtd_hours_leaves.specs.declared.clock.Clock.{Clock}
 use Rattle.gtd_hours_domain.proofs.DateLemmas.{month-day-from, month-day-to}
-use Rattle.gtd_hours_domain.proofs.LeafLemmas.{days-held, reach}
-use Rattle.gtd_hours_domain.proofs.MonthLemmas.{count, count-lies, month-in, order, reach-months}
-use Rattle.gtd_hours_domain.proofs.PlaceLemmas.{has-place, last-alone, long-month, moved-on, on-range, onward, on_month, place-at, place-has, place_at}
+use Rattle.gtd_hours_leaves.specs.facts.LeafFacts.{days-held, reach}
+use Rattle.gtd_hours_leaves.specs.facts.MonthFacts.{count, count-lies, month-in, order, reach-months}
+use Rattle.gtd_hours_domain.proofs.PlaceLemmas.{has-place, last-alone, long-month, moved-on, on-range, onward, on_month}
+use Rattle.gtd_hours_domain.proofs.PlaceLemmas.{place-at, place-has, place_at}
 use Rattle.gtd_hours_domain.proofs.RangeLemmas.{EachYear, IsInMonth, IsPast, IsWithinOne, Rises, in_year}
 use Rattle.gtd_hours_domain.proofs.RangeLemmas.{crossed, range-from, range-to, rest-from, rest-or, soon}
 
@@ -273,7 +275,8 @@ months-from t p c e j k same given on s =
 
 -- a range of one of the years
 pub in-moving : (over : Bool) (first last : End) → is_yearly first ≡ true → is_yearly last ≡ true → (n : ℤ)
-    → IsWithinOne (λ (y : ℤ). start_day first y) (λ (y : ℤ). start_day last (last_year over y)) (end_days first) (end_days last + 1) n
+    → IsWithinOne (λ (y : ℤ). start_day first y) (λ (y : ℤ). start_day last (last_year over y)) (end_days first)
+    (end_days last + 1) n
     ↔ IsInMoving over first last n
 in-moving over first last f l n = (
   (λ h.
@@ -411,8 +414,8 @@ months-fit over first last m =
       omega (arith, signed_arith, high),
     )
 
-pub months-less : (over : Bool) (first last : End) → IsMoving over first last → (a b c : ℕ) → a ≡ end_month first → b ≡ end_month last
-    → c ≡ cond over 14 2 → a ≤ b + c
+pub months-less : (over : Bool) (first last : End) → IsMoving over first last → (a b c : ℕ) → a ≡ end_month first
+    → b ≡ end_month last → c ≡ cond over 14 2 → a ≤ b + c
 months-less over first last m a b c e f g = rw (e, f, g) (months-fit over first last m).0
 
 pub months-range : (over : Bool) (first last : End) → IsMoving over first last → (k : ℕ) → k ≡ months_between over first last
@@ -480,12 +483,13 @@ module _ (over : Bool) (first last : End) (m : IsMoving over first last) where
       )
 
   -- the days are in order, as those of the ends are
-  ordered : (y : ℤ) → ((start_day first y +ℤ pos (end_days first)) ≤ℤ (start_day last (last_year over y) +ℤ pos (end_days last + 1)))
+  ordered : (y : ℤ)
+      → ((start_day first y +ℤ pos (end_days first)) ≤ℤ (start_day last (last_year over y) +ℤ pos (end_days last + 1)))
       × ((start_day last (last_year over y) +ℤ pos (end_days last + 1)) ≤ℤ (start_day first (y +ℤ pos 1) +ℤ pos (end_days first)))
   ordered y =
       let each = order-to over first last m.0 m.1 m.3 y in
-      placed (end_day first y) (end_day last (last_year over y)) (end_day first (y +ℤ pos 1)) (end_days first) (end_days last) each.0
-      each.1
+      placed (end_day first y) (end_day last (last_year over y)) (end_day first (y +ℤ pos 1)) (end_days first) (end_days last)
+      each.0 each.1
     where
       placed : (a b c : ℤ) (p q : ℕ) → a ≤ℤ b → b <ℤ c
           → (((a -ℤ pos p) +ℤ pos p) ≤ℤ ((b -ℤ pos q) +ℤ pos (q + 1)))
@@ -494,21 +498,24 @@ module _ (over : Bool) (first last : End) (m : IsMoving over first last) where
 
   -- each day is in a range or between two
   in-or : (n : ℤ)
-      → IsWithinOne (λ (y : ℤ). start_day first y) (λ (y : ℤ). start_day last (last_year over y)) (end_days first) (end_days last + 1) n
+      → IsWithinOne (λ (y : ℤ). start_day first y) (λ (y : ℤ). start_day last (last_year over y)) (end_days first)
+      (end_days last + 1) n
       ⊎ IsWithinOne (λ (y : ℤ). start_day last (last_year over y)) (λ (y : ℤ). start_day first (y +ℤ pos 1)) (end_days last + 1)
       (end_days first) n
   in-or n =
       rest-or (λ (t : ℤ). month_first t) months-rise (λ (y : ℤ). start_day first y) (λ (y : ℤ). start_day last (last_year over y))
-      (month_in first) (month_in last +ℤ pos (later over)) (end_days first) (end_days last + 1) small short xs zs ordered (count n) n
-      (lies-in n)
+      (month_in first) (month_in last +ℤ pos (later over)) (end_days first) (end_days last + 1) small short xs zs ordered
+      (count n) n (lies-in n)
 
   not-both : (n : ℤ)
-      → IsWithinOne (λ (y : ℤ). start_day first y) (λ (y : ℤ). start_day last (last_year over y)) (end_days first) (end_days last + 1) n
+      → IsWithinOne (λ (y : ℤ). start_day first y) (λ (y : ℤ). start_day last (last_year over y)) (end_days first)
+      (end_days last + 1) n
       → IsWithinOne (λ (y : ℤ). start_day last (last_year over y)) (λ (y : ℤ). start_day first (y +ℤ pos 1)) (end_days last + 1)
       (end_days first) n → ⊥
   not-both n =
-      rest-from (λ (t : ℤ). month_first t) months-rise (λ (y : ℤ). start_day first y) (λ (y : ℤ). start_day last (last_year over y))
-      (month_in first) (month_in last +ℤ pos (later over)) (end_days first) (end_days last + 1) small short xs zs ordered n
+      rest-from (λ (t : ℤ). month_first t) months-rise (λ (y : ℤ). start_day first y)
+      (λ (y : ℤ). start_day last (last_year over y)) (month_in first) (month_in last +ℤ pos (later over)) (end_days first)
+      (end_days last + 1) small short xs zs ordered n
 
   -- a day that is not out of the ranges is in one
   pub is-in : (n : ℤ) → ((IsInMoving over first last n → ⊥) → ⊥) → IsInMoving over first last n
@@ -534,16 +541,17 @@ module _ (over : Bool) (first last : End) (m : IsMoving over first last) where
       turned (month_in first) (month_in last +ℤ pos (later over)) (months_between over first last) fit.2 months-same in (
         (λ h there. not-both n (inside.1 there) (range-to (λ (t : ℤ). month_first t) months-rise
             (λ (y : ℤ). start_day last (last_year over y)) (λ (y : ℤ). start_day first (y +ℤ pos 1))
-            (λ (y : ℤ). months_later (start_day last (last_year over y)) k) (λ (y : ℤ). months_later (start_day first (y +ℤ pos 1)) 3)
-            (month_in last +ℤ pos (later over)) (month_in first +ℤ pos 12) k (end_days last + 1) (end_days first) few short small months
-            zs nexts rxs rzs n (past.0 h.0) (λ p. h.1 (from.1 p)))),
+            (λ (y : ℤ). months_later (start_day last (last_year over y)) k)
+            (λ (y : ℤ). months_later (start_day first (y +ℤ pos 1)) 3) (month_in last +ℤ pos (later over))
+            (month_in first +ℤ pos 12) k (end_days last + 1) (end_days first) few short small months zs nexts
+            rxs rzs n (past.0 h.0) (λ p. h.1 (from.1 p)))),
         (λ none. elim (in-or n) [
           | inl x ↦ absurd (none (inside.0 x))
           | inr x ↦
               let r = range-from (λ (t : ℤ). month_first t) months-rise (λ (y : ℤ). start_day last (last_year over y))
               (λ (y : ℤ). start_day first (y +ℤ pos 1)) (λ (y : ℤ). months_later (start_day last (last_year over y)) k)
-              (λ (y : ℤ). months_later (start_day first (y +ℤ pos 1)) 3) (month_in last +ℤ pos (later over)) (month_in first +ℤ pos 12) k
-              (end_days last + 1) (end_days first) few short small months zs nexts rxs rzs n x in
+              (λ (y : ℤ). months_later (start_day first (y +ℤ pos 1)) 3) (month_in last +ℤ pos (later over))
+              (month_in first +ℤ pos 12) k (end_days last + 1) (end_days first) few short small months zs nexts rxs rzs n x in
               (past.1 r.0, (λ p. r.1 (from.0 p)))
         ]),
       )
@@ -603,7 +611,8 @@ from-first a x k d n none f = (
     never : (n a : ℤ) (d : ℕ) → d ≡ 0 → a ≤ℤ n → n <ℤ (a +ℤ pos d) → ⊥
     never n a d e le lt = omega (arith, signed_arith)
 
-pub straight-days : (a b e : Type 0) (r : Moving) (k p q : ℕ) (n : ℤ) → p ≡ end_days r.first → q ≡ end_days r.last → k ≡ months_between r.is_over r.first r.last → k ≤ 10
+pub straight-days : (a b e : Type 0) (r : Moving) (k p q : ℕ) (n : ℤ) → p ≡ end_days r.first → q ≡ end_days r.last
+    → k ≡ months_between r.is_over r.first r.last → k ≤ 10
     → (a ↔ IsFrom r.first k p n) → (b ↔ IsFrom r.last 3 (q + 1) n)
     → (e ↔ (a × (b → ⊥))) → e ↔ IsInMoving r.is_over r.first r.last n
 straight-days a b e r k p q n first last is few given after both =
@@ -612,15 +621,18 @@ straight-days a b e r k p q n first last is few given after both =
     let fewer : months_between r.is_over r.first r.last ≤ 10 = omega (arith, is, few) in
     let held = straight r.is_over r.first r.last r.in_order fewer n in
     let all = minus-of a b e (IsFrom r.first k (end_days r.first) n) (IsFrom r.last 3 (end_days r.last + 1) n) f g both in
-    let to : IsFrom r.first k (end_days r.first) n → IsFrom r.first (months_between r.is_over r.first r.last) (end_days r.first) n =
+    let to : IsFrom r.first k (end_days r.first) n
+    → IsFrom r.first (months_between r.is_over r.first r.last) (end_days r.first) n =
     subst (λ (j : ℕ). IsFrom r.first j (end_days r.first) n) is in
-    let from : IsFrom r.first (months_between r.is_over r.first r.last) (end_days r.first) n → IsFrom r.first k (end_days r.first) n =
+    let from : IsFrom r.first (months_between r.is_over r.first r.last) (end_days r.first) n
+    → IsFrom r.first k (end_days r.first) n =
     subst (λ (j : ℕ). IsFrom r.first j (end_days r.first) n) (sym is) in (
       (λ h. let x = all.0 h in held.0 (to x.0, x.1)),
       (λ h. let x = held.1 h in all.1 (from x.0, x.1)),
     )
 
-pub between-days : (a b e : Type 0) (r : Moving) (k p q : ℕ) (n : ℤ) → p ≡ end_days r.first → q ≡ end_days r.last → k ≡ months_between r.is_over r.first r.last → 11 ≤ k
+pub between-days : (a b e : Type 0) (r : Moving) (k p q : ℕ) (n : ℤ) → p ≡ end_days r.first → q ≡ end_days r.last
+    → k ≡ months_between r.is_over r.first r.last → 11 ≤ k
     → (a ↔ IsFrom r.last (16 - k) (q + 1) n) → (b ↔ IsFrom r.first 3 p n)
     → (e ↔ (a × (b → ⊥))) → e ↔ (IsInMoving r.is_over r.first r.last n → ⊥)
 between-days a b e r k p q n first last is many given before both =

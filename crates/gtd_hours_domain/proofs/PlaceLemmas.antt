@@ -20,7 +20,7 @@ use Rattle.gtd_hours.specs.ComputedPlaces.{place_between, place_day}
 use Rattle.gtd_hours.specs.declared.places.MovedPlace.{MovedPlace}
 use Rattle.gtd_hours.specs.facts.PlaceFacts.{place-only, place-there, weekday-after, weekday-in}
 use Rattle.gtd_hours_domain.specs.Translation.{HasPlace, on_back, on_number}
-use Rattle.gtd_hours_domain.proofs.MonthLemmas.{count, count-lies, month-in, order}
+use Rattle.gtd_hours_leaves.specs.facts.MonthFacts.{count, count-lies, month-in, order}
 
 -- ---- months by their counts
 
@@ -143,10 +143,12 @@ apart : (f : ℤ → ℤ) → ((t u : ℤ) → t ≤ℤ u → f t ≤ℤ f u) �
     → weekday_of n ≡ weekday_of m → n <ℤ m → (n +ℤ pos 28) ≤ℤ m
 apart f rise step n m t u low a b same lt =
     by_lt_z t u
-    (λ later. weeks-apart n m same (far n m (f t) (f (t +ℤ pos 1)) (f u) low (step t) (rise (t +ℤ pos 1) u (next t u later)) a.1 b.0))
+    (λ later. weeks-apart n m same
+    (far n m (f t) (f (t +ℤ pos 1)) (f u) low (step t) (rise (t +ℤ pos 1) u (next t u later)) a.1 b.0))
     (λ le.
     by_lt_z u t
-    (λ earlier. absurd (crossed n m (f u) (f (u +ℤ pos 1)) (f t) low (step u) (rise (u +ℤ pos 1) t (next u t earlier)) b.1 a.0 lt))
+    (λ earlier. absurd
+    (crossed n m (f u) (f (u +ℤ pos 1)) (f t) low (step u) (rise (u +ℤ pos 1) t (next u t earlier)) b.1 a.0 lt))
     (λ ge.
     let e : u ≡ t = omega (arith, signed_arith, le, ge) in
     absurd (week-same n m same lt (near n m (f t) low a.0 (subst (λ (v : ℤ). m ≤ℤ ((f v +ℤ low) +ℤ pos 6)) e b.1)))))

@@ -90,7 +90,9 @@ module _ (f : ℤ → ℤ) (rises : Rises f) (x z rx rz : ℤ → ℤ) (i j : �
       let y : ℤ = h.0.0 in (
         y,
         by_lt_z m (x y +ℤ pos p) (λ lt. absurd (h.1 (y, h.0.1, lt))) (λ le. le),
-        by_lt_z m (z y +ℤ pos d) (λ lt. lt) (λ le. absurd (late ((y, on-or-after (z y) m d le, ends y m h.0.2), none y m le h.0.2))),
+        by_lt_z m (z y +ℤ pos d)
+            (λ lt. lt)
+            (λ le. absurd (late ((y, on-or-after (z y) m d le, ends y m h.0.2), none y m le h.0.2))),
       )
     where
       none : (y m : ℤ) → (z y +ℤ pos d) ≤ℤ m → m <ℤ rx y → (((v : ℤ) × (z v ≤ℤ m) × (m <ℤ (z v +ℤ pos d))) → ⊥)

@@ -6,7 +6,8 @@ use Rattle.gtd_core.specs.Seconds.{IsOnDay, day_of_second}
 use Rattle.gtd_calendar.specs.Clock.{second_of_day}
 use Rattle.gtd_calendar.specs.facts.ClockLemmas.{second-parts, second-only}
 use Rattle.std.proofs.lemmas.Bool.{cases_lt, eqb-true, false≢true}
-use Rattle.gtd_hours_domain.specs.Translation.{SomeEarly, SomeLate, moved_day, moved_place}
+use Rattle.gtd_hours_domain.specs.Translation.{SomeEarly, SomeLate}
+use Rattle.gtd_hours_leaves.specs.Leaves.{moved_day, moved_place}
 use Rattle.gtd_hours.specs.Opening.{InSpans, IsBetween, IsOnMatch, IsOpenAfter, IsOpenBy, Matches, SomeTime}
 use Rattle.gtd_hours.specs.Ranges.{end_of}
 use Rattle.gtd_hours.specs.declared.hours.Kind.{Kind}

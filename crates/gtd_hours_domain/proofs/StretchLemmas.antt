@@ -16,11 +16,12 @@ use Rattle.gtd_eval.specs.Membership.{InTree}
 use Rattle.gtd_hours.specs.Cost.{common_length}
 use Rattle.gtd_hours.specs.Opening.{IsRound, date_key}
 use Rattle.gtd_hours.specs.Ranges.{IsMonth}
-use Rattle.gtd_hours_domain.specs.Translation.{clocked, minutes_of, moved_day, no_duration, on_month_day}
-use Rattle.gtd_hours_domain.specs.declared.clock.Clock.{Clock}
+use Rattle.gtd_hours_domain.specs.Translation.{on_month_day}
+use Rattle.gtd_hours_leaves.specs.Leaves.{clocked, minutes_of, moved_day, no_duration}
+use Rattle.gtd_hours_leaves.specs.declared.clock.Clock.{Clock}
 use Rattle.gtd_hours_domain.proofs.DateLemmas.{date-in}
-use Rattle.gtd_hours_domain.proofs.LeafLemmas.{days-held, reach}
-use Rattle.gtd_hours_domain.proofs.MonthLemmas.{count, count-lies, month-in, order}
+use Rattle.gtd_hours_leaves.specs.facts.LeafFacts.{days-held, reach}
+use Rattle.gtd_hours_leaves.specs.facts.MonthFacts.{count, count-lies, month-in, order}
 
 -- months and days as one number
 abbrev pub place : ℤ → ℕ → ℤ

@@ -7,12 +7,12 @@ ghost use Rattle.gtd_hours.specs.Cost.{spans_cost};
 ghost use Rattle.gtd_hours.specs.Cost.{steps_cost, weeks_cost, years_cost};
 
 use crate::dates::{is_one_stretch, month_after};
-use crate::numbers::MOST_YEARS;
 use crate::places::{days_on, end_days, months_between};
 use crate::spans::is_early;
 use gtd_hours::{
     Dates, Hours, Kind, Link, Modifier, MovedPlace, Moving, Rule, Selector, TimeRange, Weeks, Years,
 };
+use gtd_hours_leaves::MOST_YEARS;
 
 fn add(a: u32, b: u32) -> u32
     ensures { result ≡ counted (a + b) }

@@ -2,13 +2,12 @@
 
 ghost use Rattle.std.specs.Prelude.{◌≡◌, ◌≤◌, pos, neg_ℤ, ◌+ℤ◌, ◌-ℤ◌, ◌≤ℤ◌, ◌<ℤ◌};
 ghost use Rattle.gtd_core.specs.Trees.{leaf_count, tree_of};
-ghost use Rattle.gtd_hours_domain.specs.Translation.{AreDays, HoldsAt, minutes_of};
+ghost use Rattle.gtd_hours_leaves.specs.Leaves.{AreDays, HoldsAt, minutes_of};
 ghost use Rattle.gtd_hours.specs.declared.hours.Selector.TheVariants as selector;
 
-use crate::clock::Clock;
-use crate::leaf::{NO_PARTS, each_days};
 use gtd_core::{Expr, StartParts};
 use gtd_hours::Dated;
+use gtd_hours_leaves::{Clock, NO_PARTS, each_days};
 
 fn count(first: i64, last: i64) -> u32
     requires first_in { (neg_ℤ (pos 70000) ≤ℤ first) × (first ≤ℤ pos 310000) }

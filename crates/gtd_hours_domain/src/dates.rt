@@ -8,15 +8,16 @@ ghost use Rattle.gtd_hours.specs.Cost.{IsOneStretch, common_length, is_one_stret
 ghost use Rattle.gtd_hours.specs.Cost.{dates_cost, month_after, month_cost};
 ghost use Rattle.gtd_hours.specs.Opening.{IsRound, date_key};
 ghost use Rattle.gtd_hours.specs.Ranges.{IsMonth, IsMonthDay};
-ghost use Rattle.gtd_hours_domain.specs.Translation.{clocked, no_duration, on_month_day};
-ghost use Rattle.gtd_hours_domain.specs.Translation.{AreDays, HoldsAt, InMaybe, IsMonthBetween, maybe_leaves, minutes_of};
-ghost use Rattle.gtd_hours_domain.specs.Translation.{moved_day};
+ghost use Rattle.gtd_hours_domain.specs.Translation.{IsMonthBetween, on_month_day};
+ghost use Rattle.gtd_hours_leaves.specs.Leaves.{AreDays, HoldsAt, InMaybe, clocked, maybe_leaves, minutes_of, moved_day};
+ghost use Rattle.gtd_hours_leaves.specs.Leaves.{no_duration};
 ghost use Rattle.gtd_hours.specs.declared.hours.Selector.TheVariants as selector;
 
-use crate::clock::Clock;
-use crate::leaf::{NO_DURATION, NO_PARTS, each_day, each_days, leaf, or_nothing, unite};
 use gtd_core::{DurationParts, Expr, StartParts};
 use gtd_hours::{Dates, MonthDay, Months};
+use gtd_hours_leaves::{
+    Clock, NO_DURATION, NO_PARTS, each_day, each_days, leaf, or_nothing, unite,
+};
 use std::alloc::{AllocError, Global};
 
 // How many months there are from one to another, with both.

@@ -5,17 +5,16 @@ ghost use Rattle.gtd_core.specs.Trees.{leaf_count, tree_of};
 ghost use Rattle.gtd_eval.specs.Membership.{InTree};
 ghost use Rattle.gtd_hours.specs.Cost.{days_cost, kinds_cost, selector_cost, selectors_cost};
 ghost use Rattle.gtd_hours.specs.Opening.{IsRound, Matches};
-ghost use Rattle.gtd_hours_domain.specs.Translation.{AreDays, EachHoldsAt, HoldsAt, SomeHoldsAt, minutes_of, moved_day};
+ghost use Rattle.gtd_hours_domain.specs.Translation.{EachHoldsAt, SomeHoldsAt};
+ghost use Rattle.gtd_hours_leaves.specs.Leaves.{AreDays, HoldsAt, minutes_of, moved_day};
 ghost use Rattle.gtd_hours.specs.declared.hours.Selector.TheVariants as selector;
 
-use crate::clock::Clock;
 use crate::dated::dated_days;
 use crate::dates::{date_days, month_days};
-use crate::leaf::{NO_PARTS, each_day, join, nothing};
 use crate::moving::{moved_days, moving_days};
-use crate::numbers::{week_days, year_days};
 use gtd_core::{Expr, Op, StartParts};
 use gtd_hours::{Kind, Selector, WeekdayPlace, Weekdays};
+use gtd_hours_leaves::{Clock, NO_PARTS, each_day, join, nothing, week_days, year_days};
 use std::alloc::{AllocError, Global};
 
 fn has_weekday(days: Weekdays, weekday: u8) -> bool

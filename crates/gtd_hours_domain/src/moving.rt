@@ -5,14 +5,14 @@ ghost use Rattle.gtd_core.specs.Trees.{leaf_count, tree_of};
 ghost use Rattle.gtd_calendar.specs.ComputedEnds.{months_later};
 ghost use Rattle.gtd_hours.specs.Cost.{moved_cost, moving_cost};
 ghost use Rattle.gtd_hours.specs.Moving.{end_days, is_yearly, months_between};
-ghost use Rattle.gtd_hours_domain.specs.Translation.{AreDays, HoldsAt, IsFrom, minutes_of, start_day};
+ghost use Rattle.gtd_hours_domain.specs.Translation.{IsFrom, start_day};
+ghost use Rattle.gtd_hours_leaves.specs.Leaves.{AreDays, HoldsAt, minutes_of};
 ghost use Rattle.gtd_hours.specs.declared.hours.Selector.TheVariants as selector;
 
-use crate::clock::Clock;
-use crate::leaf::{NO_DURATION, NO_PARTS, each_day, each_days, join, leaf};
 use crate::places::{days_on, end_days, end_parts, months_between, on_parts};
 use gtd_core::{DurationParts, Expr, Op};
 use gtd_hours::{End, MovedPlace, Moving};
+use gtd_hours_leaves::{Clock, NO_DURATION, NO_PARTS, each_day, each_days, join, leaf};
 use std::alloc::{AllocError, Global};
 
 /// The days of a place with days after or before it: the days up to it from the place on, without those before it.

@@ -8,11 +8,12 @@ ghost use Rattle.gtd_recur.specs.FieldMatches.{HoldsOnDay};
 ghost use Rattle.gtd_hours.specs.Moving.{days_on, end_days, end_month, is_yearly, leads_out, months_between, weeks_back};
 ghost use Rattle.gtd_hours.specs.declared.places.End.TheVariants as end;
 ghost use Rattle.gtd_hours.specs.Ranges.{IsMonth, IsWeekdayPlace};
-ghost use Rattle.gtd_hours_domain.specs.Translation.{AreDayParts, HasPlace, on_back, on_number, start_day};
+ghost use Rattle.gtd_hours_domain.specs.Translation.{HasPlace, on_back, on_number, start_day};
+ghost use Rattle.gtd_hours_leaves.specs.Leaves.{AreDayParts};
 
-use crate::leaf::NO_PARTS;
 use gtd_core::StartParts;
 use gtd_hours::{End, MonthDay, MonthPlace, MovedPlace, Moving};
+use gtd_hours_leaves::NO_PARTS;
 
 // How many weeks before a place the one is that days are counted on from.
 fn weeks_back(place: MovedPlace) -> u8

@@ -6,12 +6,13 @@ ghost use Rattle.gtd_core.specs.Trees.{leaf_count, tree_of};
 ghost use Rattle.gtd_hours.specs.Cost.{days_cost, early_cost, late_cost, spans_cost};
 ghost use Rattle.gtd_hours.specs.Opening.{InSpans, IsBetween, Matches};
 ghost use Rattle.gtd_hours.specs.Ranges.{end_of};
-ghost use Rattle.gtd_hours_domain.specs.Translation.{InMaybe, IsSet, SomeEarly, SomeLate, maybe_leaves};
+ghost use Rattle.gtd_hours_domain.specs.Translation.{SomeEarly, SomeLate};
+ghost use Rattle.gtd_hours_leaves.specs.Leaves.{InMaybe, IsSet, maybe_leaves};
 
 use crate::days::matching_days;
-use crate::leaf::{clock_at, each_clock, join, or_nothing, unite};
 use gtd_core::{Expr, Op};
 use gtd_hours::{Kind, TimeRange};
+use gtd_hours_leaves::{clock_at, each_clock, join, or_nothing, unite};
 use std::alloc::{AllocError, Global};
 
 // How many minutes a range of times lasts.

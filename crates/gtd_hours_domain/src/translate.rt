@@ -7,15 +7,15 @@ ghost use Rattle.gtd_core.specs.Trees.{leaf_count, tree_of};
 ghost use Rattle.gtd_eval.specs.Membership.{InDomain, InTree};
 ghost use Rattle.gtd_hours.specs.Cost.{cost_after, cost_by, days_cost, hours_cost};
 ghost use Rattle.gtd_hours.specs.Opening.{IsOnMatch, IsOpen, IsOpenAfter, IsOpenBy};
-ghost use Rattle.gtd_hours_domain.specs.Translation.{InMaybe, maybe_leaves};
+ghost use Rattle.gtd_hours_leaves.specs.Leaves.{InMaybe, maybe_leaves};
 
 use crate::cost::cost_of;
 use crate::days::matching_days;
-use crate::leaf::{clock_at, join, or_nothing};
 use crate::spans::rule_spans;
 use gtd_core::limits::MOST_BASIC_DOMAINS;
 use gtd_core::{Domain, Expr, Op};
 use gtd_hours::{Hours, Link, Modifier, Rule};
+use gtd_hours_leaves::{clock_at, join, or_nothing};
 use std::alloc::{AllocError, Global};
 use thiserror::Error;
 

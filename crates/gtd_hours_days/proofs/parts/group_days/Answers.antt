@@ -1,5 +1,5 @@
 -- A start with the month and day of a group gives, each year, as many days as the group has, and those are its days.
-use Rattle.gtd_hours_domain.specs.Translation.{minutes_of, moved_day}
+use Rattle.gtd_hours_leaves.specs.Leaves.{minutes_of, moved_day}
 use Rattle.gtd_hours_days.proofs.PartFacts.{group_holds, group_parts}
 use Rattle.gtd_hours_days.proofs.parts.group_days.Goals as goal
 

@@ -1,5 +1,5 @@
 use Rattle.std.proofs.Common.{◌≡◌, ◌↔◌, ◌⊎◌, ◌+◌, length, ℤ}
-use Rattle.gtd_hours_domain.specs.Translation.{InMaybe, maybe_leaves, minutes_of, moved_day}
+use Rattle.gtd_hours_leaves.specs.Leaves.{InMaybe, maybe_leaves, minutes_of, moved_day}
 use Rattle.gtd_hours_days.specs.Parts.{AreShort, SomeRun}
 use Rattle.gtd_hours_days.proofs.parts.or_runs.Given as goal
 

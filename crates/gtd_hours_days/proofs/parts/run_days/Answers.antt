@@ -1,6 +1,6 @@
 -- A start with the year, month and day on which a run begins gives a stretch as long as the run, so the run's days.
 use Rattle.std.proofs.Common.{rules, FitsSigned, w64, to_z-of_z}
-use Rattle.gtd_hours_domain.specs.Translation.{minutes_of, moved_day}
+use Rattle.gtd_hours_leaves.specs.Leaves.{minutes_of, moved_day}
 use Rattle.gtd_hours_days.proofs.DateFacts.{year_known}
 use Rattle.gtd_hours_days.proofs.PartFacts.{date_parts, run_holds}
 use Rattle.gtd_hours_days.proofs.parts.run_days.Goals as goal

@@ -1,6 +1,6 @@
 -- The days of the groups, met with all days of the years, are those in the years, and take one basic domain more.
 use Rattle.gtd_core.specs.Trees.{tree_of}
-use Rattle.gtd_hours_domain.specs.Translation.{minutes_of, moved_day}
+use Rattle.gtd_hours_leaves.specs.Leaves.{minutes_of, moved_day}
 use Rattle.gtd_hours_days.proofs.PartFacts.{both_ways, groups_count, yearly_hold, years_hold}
 use Rattle.gtd_hours_days.proofs.parts.yearly_days.Goals as goal
 

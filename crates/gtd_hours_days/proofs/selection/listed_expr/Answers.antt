@@ -1,6 +1,6 @@
 -- Selected days lie near the years, so they have an expression, and its days and count are those of the selection;
 -- a count above 128 is that of the same days.
-use Rattle.gtd_hours_domain.specs.Translation.{minutes_of, moved_day}
+use Rattle.gtd_hours_leaves.specs.Leaves.{minutes_of, moved_day}
 use Rattle.gtd_hours_days.proofs.AdditionFacts.{some_near}
 use Rattle.gtd_hours_days.proofs.PartFacts.{both_ways}
 use Rattle.gtd_hours_days.proofs.selection.listed_expr.Goals as goal

@@ -1,5 +1,5 @@
 -- The groups and runs in which a set is written have exactly its days, and no run is too long for one stretch.
-use Rattle.gtd_hours_domain.specs.Translation.{minutes_of, moved_day}
+use Rattle.gtd_hours_leaves.specs.Leaves.{minutes_of, moved_day}
 use Rattle.gtd_hours_days.proofs.CoverFacts.{all_short, as_written, is_written}
 use Rattle.gtd_hours_days.proofs.set.days_expr.Goals as goal
 

@@ -1,6 +1,6 @@
 -- One stretch from the first date, as long as the range, holds on exactly the days from the first date to the last.
 use Rattle.std.proofs.Common.{◌≡◌, rules, to_z, of_z, w64, to_z-of_z, FitsSigned}
-use Rattle.gtd_hours_domain.specs.Translation.{minutes_of, moved_day}
+use Rattle.gtd_hours_leaves.specs.Leaves.{minutes_of, moved_day}
 use Rattle.gtd_hours_domain.proofs.DateLemmas.{dated-holds}
 use Rattle.gtd_hours_domain.proofs.dated.dated_days.Goals as goal
 

@@ -1,9 +1,9 @@
 -- The months strictly between two others: none if the second follows the first, else one stretch of whole months.
 use Rattle.std.proofs.Common.{sym, ◌∙◌}
 use Rattle.gtd_calendar.specs.ComputedDates.{month_of}
-use Rattle.gtd_hours_domain.specs.Translation.{minutes_of, moved_day}
+use Rattle.gtd_hours_leaves.specs.Leaves.{minutes_of, moved_day}
 use Rattle.gtd_hours_domain.proofs.DateLemmas.{between-months, none-between, or_none, or_same}
-use Rattle.gtd_hours_domain.proofs.MonthLemmas.{month-in}
+use Rattle.gtd_hours_leaves.specs.facts.MonthFacts.{month-in}
 use Rattle.gtd_hours_domain.proofs.dates.and_between.Goals as goal
 
 pub returns-then-next-last-clause-days : goal.returns-then-next-last-clause-days

@@ -1,6 +1,6 @@
 -- The days of a range that the month has in every year: none if only 29 February is left, else one stretch of days.
 use Rattle.std.proofs.Common.{◌≡◌, ◌+◌, arith}
-use Rattle.gtd_hours_domain.specs.Translation.{maybe_leaves, minutes_of, moved_day}
+use Rattle.gtd_hours_leaves.specs.Leaves.{maybe_leaves, minutes_of, moved_day}
 use Rattle.gtd_hours_domain.proofs.DateLemmas.{common-days, leap-alone, one_after, or_none, or_same}
 use Rattle.gtd_hours_domain.proofs.dates.and_common.Goals as goal
 

@@ -2,7 +2,7 @@
 -- beginning of the last month, which together are the whole range.
 use Rattle.std.proofs.Common.{◌≡◌, ◌<◌, arith}
 use Rattle.gtd_calendar.specs.ComputedDates.{month_of, day_of_month}
-use Rattle.gtd_hours_domain.specs.Translation.{minutes_of, moved_day}
+use Rattle.gtd_hours_leaves.specs.Leaves.{minutes_of, moved_day}
 use Rattle.gtd_hours_domain.proofs.DateLemmas.{day-in, date-in, one-month, same-after, several-months}
 use Rattle.gtd_hours_domain.proofs.dates.date_days.Goals as goal
 use Rattle.gtd_hours_domain.proofs.dates.date_days.Goals.{else-first-last-via-then-first-last+else-first-last-2}

@@ -1,8 +1,9 @@
 -- So many months from the first day of a month on are the months of the range, also over the end of a year.
 use Rattle.gtd_calendar.specs.ComputedDates.{month_of}
-use Rattle.gtd_hours_domain.specs.Translation.{minutes_of, moved_day}
+use Rattle.gtd_hours_leaves.specs.Leaves.{minutes_of, moved_day}
 use Rattle.gtd_hours_domain.proofs.DateLemmas.{round-months}
-use Rattle.gtd_hours_domain.proofs.MonthLemmas.{month-in, month-run}
+use Rattle.gtd_hours_leaves.specs.facts.MonthFacts.{month-in}
+use Rattle.gtd_hours_domain.proofs.MonthLemmas.{month-run}
 use Rattle.gtd_hours_domain.proofs.dates.month_run.Goals as goal
 
 pub returns-clause-days : goal.returns-clause-days

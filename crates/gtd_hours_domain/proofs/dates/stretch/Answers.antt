@@ -1,5 +1,5 @@
 -- So many days from a day of a month on stay in that month, because it has them in every year.
-use Rattle.gtd_hours_domain.specs.Translation.{minutes_of, moved_day}
+use Rattle.gtd_hours_leaves.specs.Leaves.{minutes_of, moved_day}
 use Rattle.gtd_hours_domain.proofs.DateLemmas.{stretch-holds}
 use Rattle.gtd_hours_domain.proofs.dates.stretch.Goals as goal
 

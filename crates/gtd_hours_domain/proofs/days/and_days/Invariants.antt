@@ -2,7 +2,8 @@ use Rattle.std.proofs.Common.{◌≡◌, ◌↔◌, ◌+◌, length, ℤ}
 use Rattle.gtd_core.specs.Trees.{leaf_count, tree_of}
 use Rattle.gtd_eval.specs.Membership.{InTree}
 use Rattle.gtd_hours.specs.Cost.{kinds_cost}
-use Rattle.gtd_hours_domain.specs.Translation.{EachHoldsAt, minutes_of, moved_day}
+use Rattle.gtd_hours_domain.specs.Translation.{EachHoldsAt}
+use Rattle.gtd_hours_leaves.specs.Leaves.{minutes_of, moved_day}
 use Rattle.gtd_hours_domain.proofs.days.and_days.Given as goal
 
 -- what is met so far, on the days on which the kinds that are left hold

@@ -1,6 +1,6 @@
 -- A day on which some selector of each kind holds, as it is computed, is a day that matches, as it is defined.
 use Rattle.std.proofs.lemmas.Result.{IfOk-weaker}
-use Rattle.gtd_hours_domain.specs.Translation.{minutes_of, moved_day}
+use Rattle.gtd_hours_leaves.specs.Leaves.{minutes_of, moved_day}
 use Rattle.gtd_hours_domain.proofs.DateLemmas.{same-after}
 use Rattle.gtd_hours_domain.proofs.DayLemmas.{matches-computed}
 use Rattle.gtd_hours_domain.proofs.days.matching_days.Goals as goal

@@ -2,7 +2,8 @@ use Rattle.std.proofs.Common.{◌≡◌, ◌↔◌, ◌⊎◌, ◌+◌, length, 
 use Rattle.gtd_core.specs.Trees.{leaf_count, tree_of}
 use Rattle.gtd_eval.specs.Membership.{InTree}
 use Rattle.gtd_hours.specs.Cost.{selectors_cost}
-use Rattle.gtd_hours_domain.specs.Translation.{SomeHoldsAt, minutes_of, moved_day}
+use Rattle.gtd_hours_domain.specs.Translation.{SomeHoldsAt}
+use Rattle.gtd_hours_leaves.specs.Leaves.{minutes_of, moved_day}
 use Rattle.gtd_hours_domain.proofs.days.or_days.Given as goal
 
 -- what is united so far, with the days of the selectors that are left

@@ -1,5 +1,5 @@
 -- A start with the bits of a range of weekdays holds on exactly the days whose weekday is in the range.
-use Rattle.gtd_hours_domain.specs.Translation.{minutes_of, moved_day}
+use Rattle.gtd_hours_leaves.specs.Leaves.{minutes_of, moved_day}
 use Rattle.gtd_hours_domain.proofs.DayLemmas.{weekdays-hold}
 use Rattle.gtd_hours_domain.proofs.days.weekday_days.Goals as goal
 

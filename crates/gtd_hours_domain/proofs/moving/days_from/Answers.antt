@@ -1,6 +1,7 @@
+-- Stretches of days from the day that an end is counted on from, in each year.
 use Rattle.gtd_core.specs.Trees.{tree_of}
 use Rattle.gtd_eval.specs.Membership.{InTree}
-use Rattle.gtd_hours_domain.specs.Translation.{minutes_of, moved_day}
+use Rattle.gtd_hours_leaves.specs.Leaves.{minutes_of, moved_day}
 use Rattle.gtd_hours_domain.proofs.MovingLemmas.{days-from}
 use Rattle.gtd_hours_domain.proofs.moving.days_from.Goals as goal
 

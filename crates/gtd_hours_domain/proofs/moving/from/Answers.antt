@@ -1,6 +1,7 @@
+-- The stretches of months without those of the first days; with no first days they are the stretches of months.
 use Rattle.std.proofs.Common.{◌≡◌, arith}
 use Rattle.std.proofs.lemmas.Result.{IfOk-weaker}
-use Rattle.gtd_hours_domain.specs.Translation.{minutes_of, moved_day}
+use Rattle.gtd_hours_leaves.specs.Leaves.{minutes_of, moved_day}
 use Rattle.gtd_hours_domain.proofs.MovingLemmas.{from-days, from-first}
 use Rattle.gtd_hours_domain.proofs.moving.from.Goals as goal
 

@@ -1,3 +1,4 @@
+-- Stretches of months from the day that an end is counted on from, in each year.
 use Rattle.gtd_core.specs.Trees.{tree_of}
 use Rattle.gtd_hours_domain.proofs.MovingLemmas.{months-from}
 use Rattle.gtd_hours_domain.proofs.moving.months_from.Goals as goal

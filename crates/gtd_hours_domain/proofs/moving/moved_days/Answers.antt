@@ -1,6 +1,7 @@
+-- The days up to a place from one on that lies some weeks before, without those before the place, are its days.
 use Rattle.std.proofs.Common.{◌≡◌, ◌∙◌, ◌≤◌, arith}
 use Rattle.std.proofs.lemmas.Result.{IfOk-weaker}
-use Rattle.gtd_hours_domain.specs.Translation.{minutes_of, moved_day}
+use Rattle.gtd_hours_leaves.specs.Leaves.{minutes_of, moved_day}
 use Rattle.gtd_hours_domain.proofs.MovingLemmas.{moved-day, moved-days}
 use Rattle.gtd_hours_domain.proofs.moving.moved_days.Goals as goal
 

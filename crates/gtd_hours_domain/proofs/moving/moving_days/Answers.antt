@@ -1,5 +1,6 @@
+-- All days without those between two ranges are the days of the ranges.
 use Rattle.std.proofs.lemmas.Result.{IfOk-weaker}
-use Rattle.gtd_hours_domain.specs.Translation.{minutes_of, moved_day}
+use Rattle.gtd_hours_leaves.specs.Leaves.{minutes_of, moved_day}
 use Rattle.gtd_hours_domain.proofs.MovingLemmas.{rest-days}
 use Rattle.gtd_hours_domain.proofs.moving.moving_days.Goals as goal
 

@@ -1,5 +1,6 @@
+-- What is from the first day of a range on, without what comes after its last day, are the days of the range.
 use Rattle.std.proofs.lemmas.Result.{IfOk-weaker}
-use Rattle.gtd_hours_domain.specs.Translation.{minutes_of, moved_day}
+use Rattle.gtd_hours_leaves.specs.Leaves.{minutes_of, moved_day}
 use Rattle.gtd_hours_domain.proofs.MovingLemmas.{straight-days}
 use Rattle.gtd_hours_domain.proofs.moving.straight_days.Goals as goal
 

@@ -1,3 +1,4 @@
+-- A place of a weekday in its month begins in each year on the day that the end is counted on from.
 use Rattle.gtd_hours_domain.proofs.MovingLemmas.{parts-start}
 use Rattle.gtd_hours_domain.proofs.places.month_place_parts.Goals as goal
 

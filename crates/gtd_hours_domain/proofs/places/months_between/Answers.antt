@@ -1,3 +1,4 @@
+-- The ends of a range lie apart by some months, at least one and at most fifteen.
 use Rattle.gtd_hours_domain.proofs.MovingLemmas.{less-value, months-less, months-range}
 use Rattle.gtd_hours_domain.proofs.places.months_between.Goals as goal
 

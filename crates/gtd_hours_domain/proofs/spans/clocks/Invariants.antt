@@ -3,7 +3,8 @@
 use Rattle.std.proofs.Common.{◌≡◌, ◌↔◌, ◌⊎◌, ◌+◌, length, ℤ}
 use Rattle.gtd_core.specs.Seconds.{day_of_second}
 use Rattle.gtd_hours.specs.Cost.{early_cost}
-use Rattle.gtd_hours_domain.specs.Translation.{InMaybe, SomeEarly, maybe_leaves}
+use Rattle.gtd_hours_domain.specs.Translation.{SomeEarly}
+use Rattle.gtd_hours_leaves.specs.Leaves.{InMaybe, maybe_leaves}
 use Rattle.gtd_hours_domain.proofs.spans.clocks.Given as goal
 
 abbrev pub invariant-loop-time : goal.invariant-loop-time

@@ -1,7 +1,7 @@
 -- Matching days, met with the minutes of ranges that end on their day, are the spans of these ranges.
 use Rattle.gtd_core.specs.Trees.{tree_of}
 use Rattle.gtd_hours_domain.proofs.CostLemmas.{some-early}
-use Rattle.gtd_hours_domain.proofs.LeafLemmas.{some-leaf}
+use Rattle.gtd_hours_leaves.specs.facts.LeafFacts.{some-leaf}
 use Rattle.gtd_hours_domain.proofs.SpanLemmas.{early-days}
 use Rattle.gtd_hours_domain.proofs.spans.early_spans.Goals as goal
 

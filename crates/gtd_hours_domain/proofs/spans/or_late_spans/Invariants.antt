@@ -1,7 +1,8 @@
 use Rattle.std.proofs.Common.{◌≡◌, ◌↔◌, ◌⊎◌, ◌+◌, length, ℤ}
 use Rattle.gtd_hours.specs.Cost.{days_cost, late_cost}
 use Rattle.gtd_hours.specs.Opening.{Matches}
-use Rattle.gtd_hours_domain.specs.Translation.{InMaybe, SomeLate, maybe_leaves}
+use Rattle.gtd_hours_domain.specs.Translation.{SomeLate}
+use Rattle.gtd_hours_leaves.specs.Leaves.{InMaybe, maybe_leaves}
 use Rattle.gtd_hours_domain.proofs.spans.or_late_spans.Given as goal
 
 -- what is united so far, with the spans of the ranges that are left

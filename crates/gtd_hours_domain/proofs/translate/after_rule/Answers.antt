@@ -4,7 +4,7 @@ use Rattle.gtd_core.specs.Trees.{tree_of}
 use Rattle.gtd_hours.specs.Cost.{days_cost, rule_cost}
 use Rattle.gtd_hours.specs.Opening.{InSpans}
 use Rattle.gtd_hours_domain.proofs.CostLemmas.{some-instead, some-open}
-use Rattle.gtd_hours_domain.proofs.LeafLemmas.{some-leaf}
+use Rattle.gtd_hours_leaves.specs.facts.LeafFacts.{some-leaf}
 use Rattle.gtd_hours_domain.proofs.SpanLemmas.{or-same}
 use Rattle.gtd_hours_domain.proofs.translate.after_rule.Goals as goal
 

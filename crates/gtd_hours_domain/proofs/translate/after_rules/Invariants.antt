@@ -1,7 +1,7 @@
 use Rattle.std.proofs.Common.{◌≡◌, ◌↔◌, length, ℤ}
 use Rattle.gtd_hours.specs.Cost.{cost_after}
 use Rattle.gtd_hours.specs.Opening.{IsOpenAfter}
-use Rattle.gtd_hours_domain.specs.Translation.{InMaybe, maybe_leaves}
+use Rattle.gtd_hours_leaves.specs.Leaves.{InMaybe, maybe_leaves}
 use Rattle.gtd_hours_domain.proofs.translate.after_rules.Given as goal
 
 -- what the rules that are left make of what is open so far

@@ -1,0 +1,2 @@
+pub mod LeafFacts
+pub mod MonthFacts
