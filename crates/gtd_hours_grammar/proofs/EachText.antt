@@ -7,20 +7,20 @@ use Rattle.gtd_hours_tokens.specs.Lexing.{AreTokens, IsNext, IsTokenFault, Reads
 use Rattle.gtd_hours_tokens.specs.facts.TokenForms.{ends_inside, goes_on}
 use Rattle.gtd_hours_grammar.specs.declared.fault.FaultKind.TheVariants as fault
 use Rattle.gtd_hours_grammar.specs.declared.fault.HoursFault.{HoursFault}
-use Rattle.gtd_hours_grammar.specs.Terms.{Token, Piece, Move}
-use Rattle.gtd_hours_grammar.specs.declared.place.Place.TheVariants as places
+use Rattle.gtd_hours_moves.specs.Terms.{Token, Piece, Move}
+use Rattle.gtd_hours_moves.specs.declared.place.Place.TheVariants as places
 use Rattle.gtd_hours_grammar.specs.declared.reading.Reading.{Reading}
 use Rattle.gtd_hours_grammar.specs.Faults.{IsFirstFault, IsHoursText}
-use Rattle.gtd_hours_grammar.specs.Moves.{next_move}
-use Rattle.gtd_hours_grammar.specs.Runs.{is_after, with_piece}
-use Rattle.gtd_hours_grammar.specs.Sound.{Fits}
+use Rattle.gtd_hours_moves.specs.Moves.{next_move}
+use Rattle.gtd_hours_moves.specs.Runs.{is_after, with_piece}
+use Rattle.gtd_hours_moves.specs.Sound.{Fits}
 use Rattle.gtd_hours_parts.specs.SoundPieces.{ArePieces, IsPiece}
 use Rattle.gtd_hours_grammar.specs.Steps.{IsMove, IsTokenReading, advanced, fault_at, kind_of, moves_left}
 use Rattle.gtd_hours_grammar.specs.facts.FirstFault.{hours_or_fault}
 use Rattle.gtd_hours_grammar.specs.facts.OneReading.{one_reading}
 use Rattle.gtd_hours_grammar.proofs.EndLemmas.{all_read, incomplete, misfits}
 use Rattle.gtd_hours_grammar.proofs.FitsDecided.{fits_decided}
-use Rattle.gtd_hours_grammar.proofs.GoodMoves.{IsRight, move_right}
+use Rattle.gtd_hours_moves.proofs.GoodMoves.{IsRight, move_right}
 use Rattle.gtd_hours_grammar.proofs.ReadLemmas.{Stands, advance, fewer, front_read}
 use Rattle.gtd_hours_grammar.proofs.SoundLemmas.{sound_piece}
 

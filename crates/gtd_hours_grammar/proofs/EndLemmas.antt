@@ -8,23 +8,23 @@ use Rattle.gtd_hours_tokens.specs.Lexing.{AreTokens, IsNext}
 use Rattle.gtd_hours_tokens.specs.declared.token.TokenKind.TheVariants as token
 use Rattle.gtd_hours_grammar.specs.declared.fault.FaultKind.{FaultKind}
 use Rattle.gtd_hours_grammar.specs.declared.fault.FaultKind.TheVariants as fault
-use Rattle.gtd_hours_grammar.specs.Terms.{Token, TokenKind, Piece, Place}
-use Rattle.gtd_hours_grammar.specs.declared.stage.Stage.TheVariants as stage
-use Rattle.gtd_hours_grammar.specs.declared.place.Place.TheVariants as places
+use Rattle.gtd_hours_moves.specs.Terms.{Token, TokenKind, Piece, Place}
+use Rattle.gtd_hours_moves.specs.declared.stage.Stage.TheVariants as stage
+use Rattle.gtd_hours_moves.specs.declared.place.Place.TheVariants as places
 use Rattle.gtd_hours_grammar.specs.declared.reading.Reading.{Reading}
-use Rattle.gtd_hours_grammar.specs.Grammar.{AreHours, CanGoOn, Demand, Follow, More, in_full, so_far}
-use Rattle.gtd_hours_grammar.specs.Grammar.{by_place, with_years}
+use Rattle.gtd_hours_moves.specs.Grammar.{AreHours, CanGoOn, Demand, Follow, More, in_full, so_far}
+use Rattle.gtd_hours_moves.specs.Grammar.{by_place, with_years}
 use Rattle.gtd_hours_grammar.specs.Faults.{FitsByPlace, IsFirstFault, IsHoursText, IsMisfitKind, are_alike, dash_kind}
 use Rattle.gtd_hours_grammar.specs.Faults.{NeedsYears, day_kind, is_offset, is_told_before, kind_before, kinds}
 use Rattle.gtd_hours_grammar.specs.Faults.{last_from, last_kind, plus_kind, told_at, weekday_kind}
 use Rattle.gtd_hours_grammar.specs.Kinds.{misfit_of, number_misfit, place_of, range_if}
-use Rattle.gtd_hours_grammar.specs.Places.{Rest}
-use Rattle.gtd_hours_grammar.specs.Places.BehindDate.{none}
-use Rattle.gtd_hours_grammar.specs.Sound.{IsPlace, takes_number, takes_time}
-use Rattle.gtd_hours_grammar.specs.Runs.{Runs, is_after, is_judged}
+use Rattle.gtd_hours_moves.specs.Places.{Rest}
+use Rattle.gtd_hours_moves.specs.Places.BehindDate.{none}
+use Rattle.gtd_hours_moves.specs.Sound.{IsPlace, takes_number, takes_time}
+use Rattle.gtd_hours_moves.specs.Runs.{Runs, is_after, is_judged}
 use Rattle.gtd_hours_grammar.specs.Steps.{GivesTo, IsMove, IsTokenReading, end_or_fault, ended, fault_at, kind_of}
-use Rattle.gtd_hours_grammar.specs.facts.RunSteps.{run_end_refused, run_refused, unjudged_refused}
-use Rattle.gtd_hours_grammar.specs.facts.FollowRuns.{follow_runs}
+use Rattle.gtd_hours_moves.specs.facts.RunSteps.{run_end_refused, run_refused, unjudged_refused}
+use Rattle.gtd_hours_moves.specs.facts.FollowRuns.{follow_runs}
 use Rattle.gtd_hours_grammar.proofs.NoNext.{no_number, no_time}
 use Rattle.gtd_hours_grammar.proofs.Endings.{JudgedEnding, ending, month_ending, number_ending, slash_ending}
 use Rattle.gtd_hours_grammar.proofs.Endings.{time_ending, years_ending}

@@ -11,22 +11,22 @@ use Rattle.gtd_hours_parts.specs.Times.{IsBegin}
 use Rattle.gtd_hours_parts.specs.declared.piece.Offset.{Offset}
 use Rattle.gtd_hours_parts.specs.declared.piece.WrittenDate.{WrittenDate}
 use Rattle.gtd_hours_parts.specs.declared.piece.LastDate.TheVariants as last_date
-use Rattle.gtd_hours_grammar.specs.Terms.{TokenKind, Piece, Stage, Place}
+use Rattle.gtd_hours_moves.specs.Terms.{TokenKind, Piece, Stage, Place}
 use Rattle.gtd_hours_parts.specs.declared.piece.Piece.TheVariants as piece
-use Rattle.gtd_hours_grammar.specs.declared.stage.Stage.TheVariants as stage
-use Rattle.gtd_hours_grammar.specs.declared.place.Place.TheVariants as places
-use Rattle.gtd_hours_grammar.specs.Grammar.{Demand, Follow, IsDates, IsMonthDays, IsPlaces, IsWeekdays, IsWeeks, IsYears}
-use Rattle.gtd_hours_grammar.specs.Grammar.{by_place}
-use Rattle.gtd_hours_grammar.specs.Grammar.{date_before, dated, goes_on, may_break_off, months_to, number, precedes}
-use Rattle.gtd_hours_grammar.specs.Grammar.{so_far, with_years}
-use Rattle.gtd_hours_grammar.specs.Grammar.{time, unfinished}
+use Rattle.gtd_hours_moves.specs.declared.stage.Stage.TheVariants as stage
+use Rattle.gtd_hours_moves.specs.declared.place.Place.TheVariants as places
+use Rattle.gtd_hours_moves.specs.Grammar.{Demand, Follow, IsDates, IsMonthDays, IsPlaces, IsWeekdays, IsWeeks, IsYears}
+use Rattle.gtd_hours_moves.specs.Grammar.{by_place}
+use Rattle.gtd_hours_moves.specs.Grammar.{date_before, dated, goes_on, may_break_off, months_to, number, precedes}
+use Rattle.gtd_hours_moves.specs.Grammar.{so_far, with_years}
+use Rattle.gtd_hours_moves.specs.Grammar.{time, unfinished}
 use Rattle.gtd_hours_parts.specs.Pieces.{AreBackWeeks, IsDay, IsLastDay, IsRange, IsWrittenDate, final_week, final_year}
 use Rattle.gtd_hours_parts.specs.Pieces.{week_one}
-use Rattle.gtd_hours_grammar.specs.Places.{Behind, BehindDate, FromDate, Rest}
-use Rattle.gtd_hours_grammar.specs.Places.BehindDate.{day, none}
+use Rattle.gtd_hours_moves.specs.Places.{Behind, BehindDate, FromDate, Rest}
+use Rattle.gtd_hours_moves.specs.Places.BehindDate.{day, none}
 use Rattle.gtd_hours.specs.declared.hours.Link.TheVariants as link
-use Rattle.gtd_hours_grammar.specs.Runs.{is_judged, is_step}
-use Rattle.gtd_hours_grammar.specs.Sound.{IsLastYear, IsPlace, Reaches, takes_number, takes_time}
+use Rattle.gtd_hours_moves.specs.Runs.{is_judged, is_step}
+use Rattle.gtd_hours_moves.specs.Sound.{IsLastYear, IsPlace, Reaches, takes_number, takes_time}
 use Rattle.gtd_hours_grammar.proofs.EndingsOfParts.{a_date, a_month, a_month_day, a_year, after_number, another, behind}
 use Rattle.gtd_hours_grammar.proofs.EndingsOfParts.{bracket_closed, dated_after, digit_one, done, first_day, first_of}
 use Rattle.gtd_hours_grammar.proofs.EndingsOfParts.{first_of-is, in_brackets, midnight, midnight-is, opened, other_rule}

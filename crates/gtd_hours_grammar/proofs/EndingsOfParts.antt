@@ -13,14 +13,14 @@ use Rattle.gtd_hours_parts.specs.Dates.{IsDayOfYear, IsWrittenDay}
 use Rattle.gtd_hours_parts.specs.Numbers.{IsYearNumber}
 use Rattle.gtd_hours_parts.specs.Times.{IsBegin, minute_of}
 use Rattle.gtd_hours_parts.specs.declared.piece.WrittenDate.{WrittenDate}
-use Rattle.gtd_hours_grammar.specs.Terms.{TokenKind, Piece, Stage}
+use Rattle.gtd_hours_moves.specs.Terms.{TokenKind, Piece, Stage}
 use Rattle.gtd_hours_parts.specs.declared.piece.Piece.TheVariants as piece
-use Rattle.gtd_hours_grammar.specs.declared.stage.Stage.TheVariants as stage
-use Rattle.gtd_hours_grammar.specs.Grammar.{Demand, Follow, IsDates, IsMonthDays, IsOne, IsPlaces, IsTimes, IsYears}
-use Rattle.gtd_hours_grammar.specs.Grammar.{Listed, More, Text, begins_with_date, date_before, list_goes_on, number, precedes}
-use Rattle.gtd_hours_grammar.specs.Grammar.{time}
+use Rattle.gtd_hours_moves.specs.declared.stage.Stage.TheVariants as stage
+use Rattle.gtd_hours_moves.specs.Grammar.{Demand, Follow, IsDates, IsMonthDays, IsOne, IsPlaces, IsTimes, IsYears}
+use Rattle.gtd_hours_moves.specs.Grammar.{Listed, More, Text, begins_with_date, date_before, list_goes_on, number, precedes}
+use Rattle.gtd_hours_moves.specs.Grammar.{time}
 use Rattle.gtd_hours_parts.specs.Pieces.{AreWrittenTimes, IsWrittenDate}
-use Rattle.gtd_hours_grammar.specs.Places.{Behind, BehindBrackets, BehindPlace, From, FromDate, InBrackets}
+use Rattle.gtd_hours_moves.specs.Places.{Behind, BehindBrackets, BehindPlace, From, FromDate, InBrackets}
 
 -- ---- numbers and times that fit
 

@@ -14,12 +14,12 @@ use Rattle.gtd_hours_parts.specs.declared.digits.Digits.{Digits}
 use Rattle.gtd_hours_parts.specs.declared.piece.LastDate.{LastDate}
 use Rattle.gtd_hours_parts.specs.declared.piece.LastDate.TheVariants as last_date
 use Rattle.gtd_hours_parts.specs.declared.piece.WrittenDate.{WrittenDate}
-use Rattle.gtd_hours_grammar.specs.Terms.{TokenKind, Stage, Place}
-use Rattle.gtd_hours_grammar.specs.declared.place.Place.TheVariants as places
-use Rattle.gtd_hours_grammar.specs.declared.stage.Stage.TheVariants as stage
+use Rattle.gtd_hours_moves.specs.Terms.{TokenKind, Stage, Place}
+use Rattle.gtd_hours_moves.specs.declared.place.Place.TheVariants as places
+use Rattle.gtd_hours_moves.specs.declared.stage.Stage.TheVariants as stage
 use Rattle.gtd_hours_parts.specs.Pieces.{AreWrittenTimes, EndsRange, IsDay, IsLastDay, IsRange, first_day_of, last_day_of}
-use Rattle.gtd_hours_grammar.specs.Sound.{Fits, ListedFits, MonthFits, NumberFits, TimeFits, YearOrDay, YearOrListed}
-use Rattle.gtd_hours_grammar.specs.Sound.{Reaches, is_last_year}
+use Rattle.gtd_hours_moves.specs.Sound.{Fits, ListedFits, MonthFits, NumberFits, TimeFits, YearOrDay, YearOrListed}
+use Rattle.gtd_hours_moves.specs.Sound.{Reaches, is_last_year}
 
 -- ---- what is decided part by part
 

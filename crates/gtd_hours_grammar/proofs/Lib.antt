@@ -1,14 +1,10 @@
--- Lemmas on the table of moves, on readings from token to token, and on texts with their pieces or first fault.
+-- Lemmas on readings from token to token, and on texts with their pieces or first fault.
 pub mod NoNext
 pub mod EndingsOfParts
 pub mod Endings
 pub mod EachText
 pub mod EndLemmas
 pub mod FitsDecided
-pub mod GoodItems
-pub mod GoodLemmas
-pub mod GoodMoves
-pub mod GoodRules
 pub mod ReadLemmas
 pub mod ReadingLemmas
 pub mod SoundLemmas

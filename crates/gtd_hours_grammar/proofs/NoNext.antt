@@ -3,17 +3,17 @@ use Rattle.std.proofs.Common.{◌≡◌, ℕ, Bool, true, false, List, ◌∷◌
 use Rattle.std.specs.Prelude.{◌&&◌}
 use Rattle.gtd_hours_tokens.specs.declared.token.TokenKind.TheVariants as token
 use Rattle.gtd_hours_parts.specs.declared.digits.Digits.{Digits}
-use Rattle.gtd_hours_grammar.specs.Terms.{TokenKind, Piece, Stage, Place, Move}
+use Rattle.gtd_hours_moves.specs.Terms.{TokenKind, Piece, Stage, Place, Move}
 use Rattle.gtd_hours_parts.specs.declared.piece.Piece.TheVariants as piece
-use Rattle.gtd_hours_grammar.specs.declared.stage.Stage.TheVariants as stage
-use Rattle.gtd_hours_grammar.specs.declared.place.Place.TheVariants as places
-use Rattle.gtd_hours_grammar.specs.Grammar.{Demand, precedes}
+use Rattle.gtd_hours_moves.specs.declared.stage.Stage.TheVariants as stage
+use Rattle.gtd_hours_moves.specs.declared.place.Place.TheVariants as places
+use Rattle.gtd_hours_moves.specs.Grammar.{Demand, precedes}
 use Rattle.gtd_hours_parts.specs.Pieces.{final_week, week_one}
-use Rattle.gtd_hours_grammar.specs.Sound.{takes_number, takes_time}
-use Rattle.gtd_hours_grammar.specs.Moves.{next_move, give, take, complete, front_reach, written, clock}
-use Rattle.gtd_hours_grammar.specs.Runs.{Runs, is_judged, is_after, left}
-use Rattle.gtd_hours_grammar.specs.Runs.Runs.{ends, cut, any_last, step}
-use Rattle.gtd_hours_grammar.specs.facts.RunSteps.{held, no_token, not_fit}
+use Rattle.gtd_hours_moves.specs.Sound.{takes_number, takes_time}
+use Rattle.gtd_hours_moves.specs.Moves.{next_move, give, take, complete, front_reach, written, clock}
+use Rattle.gtd_hours_moves.specs.Runs.{Runs, is_judged, is_after, left}
+use Rattle.gtd_hours_moves.specs.Runs.Runs.{ends, cut, any_last, step}
+use Rattle.gtd_hours_moves.specs.facts.RunSteps.{held, no_token, not_fit}
 
 abbrev is_nth : Place → Bool
 is_nth (places.Nth k n r) = true

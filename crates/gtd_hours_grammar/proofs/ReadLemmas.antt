@@ -7,17 +7,17 @@ use Rattle.std.proofs.lemmas.List.{append-nil}
 use Rattle.gtd_hours_tokens.specs.Lexing.{AreTokens, IsNext, Reads}
 use Rattle.gtd_hours_tokens.specs.facts.NextToken.{one_next}
 use Rattle.gtd_hours_tokens.specs.declared.token.BadToken.{BadToken}
-use Rattle.gtd_hours_grammar.specs.Terms.{Token, TokenKind, Piece, Place, Move}
-use Rattle.gtd_hours_grammar.specs.declared.place.Place.TheVariants as places
+use Rattle.gtd_hours_moves.specs.Terms.{Token, TokenKind, Piece, Place, Move}
+use Rattle.gtd_hours_moves.specs.declared.place.Place.TheVariants as places
 use Rattle.gtd_hours_grammar.specs.declared.reading.Reading.{Reading}
-use Rattle.gtd_hours_grammar.specs.Grammar.{Demand}
+use Rattle.gtd_hours_moves.specs.Grammar.{Demand}
 use Rattle.gtd_hours_grammar.specs.Faults.{kind_before, kinds, last_from, last_kind}
-use Rattle.gtd_hours_grammar.specs.Places.{Rest}
-use Rattle.gtd_hours_grammar.specs.Sound.{Fits}
-use Rattle.gtd_hours_grammar.specs.Moves.{next_move, rank}
-use Rattle.gtd_hours_grammar.specs.Runs.{IsGood, Runs, first, from, left, with_piece}
+use Rattle.gtd_hours_moves.specs.Places.{Rest}
+use Rattle.gtd_hours_moves.specs.Sound.{Fits}
+use Rattle.gtd_hours_moves.specs.Moves.{next_move, rank}
+use Rattle.gtd_hours_moves.specs.Runs.{IsGood, Runs, first, from, left, with_piece}
 use Rattle.gtd_hours_grammar.specs.Steps.{GivesTo, HasRead, IsMove, IsTokenReading, RunsOn, advanced, kind_of, moved, moves_left}
-use Rattle.gtd_hours_grammar.specs.facts.RunSteps.{run_step}
+use Rattle.gtd_hours_moves.specs.facts.RunSteps.{run_step}
 
 -- ---- moves that use up no token
 

@@ -6,12 +6,12 @@ use Rattle.std.proofs.lemmas.List.{append-nil}
 use Rattle.gtd_hours_tokens.specs.Lexing.{AreTokens, IsNext, IsTokenFault}
 use Rattle.gtd_hours_tokens.specs.facts.WholeText.{HasRead, all_read, at_front, with_token}
 use Rattle.gtd_hours_parts.specs.declared.part.Part.{Part}
-use Rattle.gtd_hours_grammar.specs.Terms.{Token, TokenKind, Piece, Move}
-use Rattle.gtd_hours_grammar.specs.declared.place.Place.TheVariants as places
+use Rattle.gtd_hours_moves.specs.Terms.{Token, TokenKind, Piece, Move}
+use Rattle.gtd_hours_moves.specs.declared.place.Place.TheVariants as places
 use Rattle.gtd_hours_grammar.specs.declared.fault.HoursFault.{HoursFault}
 use Rattle.gtd_hours_grammar.specs.declared.reading.Reading.{Reading}
 use Rattle.gtd_hours_grammar.specs.Faults.{IsFirstFault, IsHoursText}
-use Rattle.gtd_hours_grammar.specs.Runs.{is_after, with_piece}
+use Rattle.gtd_hours_moves.specs.Runs.{is_after, with_piece}
 use Rattle.gtd_hours_grammar.specs.Steps.{IsEndOrFault, IsMove, IsReading, IsToldAt, advanced, ended, fault_at, kind_of, moved}
 use Rattle.gtd_hours_grammar.specs.Steps.{moves_left}
 use Rattle.gtd_hours_grammar.proofs.EndLemmas.{ends_all, ends_fault}

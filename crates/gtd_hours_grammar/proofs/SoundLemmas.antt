@@ -5,16 +5,16 @@ use Rattle.gtd_hours.specs.declared.hours.Link.TheVariants as link
 use Rattle.gtd_hours_tokens.specs.declared.token.TokenKind.TheVariants as token
 use Rattle.gtd_hours_parts.specs.declared.digits.Digits.{Digits}
 use Rattle.gtd_hours_parts.specs.declared.piece.LastDate.TheVariants as last_date
-use Rattle.gtd_hours_grammar.specs.Terms.{TokenKind, Piece, Stage, Place, Move}
+use Rattle.gtd_hours_moves.specs.Terms.{TokenKind, Piece, Stage, Place, Move}
 use Rattle.gtd_hours_parts.specs.declared.piece.Piece.TheVariants as piece
 use Rattle.gtd_hours_parts.specs.declared.piece.WrittenDate.{WrittenDate}
-use Rattle.gtd_hours_grammar.specs.declared.stage.Stage.TheVariants as stage
-use Rattle.gtd_hours_grammar.specs.declared.place.Place.TheVariants as places
-use Rattle.gtd_hours_grammar.specs.Moves.{complete, give, later, listed, listed_number, next_goes_on, next_move, take, when}
-use Rattle.gtd_hours_grammar.specs.Moves.{dates_end, week_pair, written, year_or_listed}
+use Rattle.gtd_hours_moves.specs.declared.stage.Stage.TheVariants as stage
+use Rattle.gtd_hours_moves.specs.declared.place.Place.TheVariants as places
+use Rattle.gtd_hours_moves.specs.Moves.{complete, give, later, listed, listed_number, next_goes_on, next_move, take, when}
+use Rattle.gtd_hours_moves.specs.Moves.{dates_end, week_pair, written, year_or_listed}
 use Rattle.gtd_hours_parts.specs.Numbers.{IsYearNumber}
 use Rattle.gtd_hours_parts.specs.Pieces.{IsRange, IsWrittenDate, final_year}
-use Rattle.gtd_hours_grammar.specs.Sound.{Fits, IsPlace, YearOrDay, is_last_year}
+use Rattle.gtd_hours_moves.specs.Sound.{Fits, IsPlace, YearOrDay, is_last_year}
 use Rattle.gtd_hours_parts.specs.SoundPieces.{IsPiece}
 use Rattle.gtd_hours_grammar.specs.Steps.{IsMove}
 use Rattle.gtd_hours_grammar.proofs.EndingsOfParts.{first_of-is}

@@ -6,9 +6,9 @@ use Rattle.gtd_hours_tokens.specs.declared.token.TokenKind.TheVariants as token
 use Rattle.gtd_hours_grammar.specs.declared.fault.FaultKind.{FaultKind}
 use Rattle.gtd_hours_grammar.specs.declared.fault.FaultKind.TheVariants as fault
 use Rattle.gtd_hours_grammar.specs.declared.fault.HoursFault.{HoursFault}
-use Rattle.gtd_hours_grammar.specs.Terms.{Token, TokenKind, Piece}
-use Rattle.gtd_hours_grammar.specs.declared.stage.Stage.TheVariants as stage
-use Rattle.gtd_hours_grammar.specs.Grammar.{AreHours, CanGoOn, Follow, by_place, with_years}
+use Rattle.gtd_hours_moves.specs.Terms.{Token, TokenKind, Piece}
+use Rattle.gtd_hours_moves.specs.declared.stage.Stage.TheVariants as stage
+use Rattle.gtd_hours_moves.specs.Grammar.{AreHours, CanGoOn, Follow, by_place, with_years}
 
 abbrev pub kinds : List Token → List TokenKind
 kinds [] = []

@@ -6,11 +6,11 @@ use Rattle.gtd_hours_tokens.specs.declared.token.TokenKind.{TokenKind}
 use Rattle.gtd_hours_tokens.specs.declared.token.TokenKind.TheVariants as token
 use Rattle.gtd_hours_grammar.specs.declared.fault.FaultKind.{FaultKind}
 use Rattle.gtd_hours_grammar.specs.declared.fault.FaultKind.TheVariants as fault
-use Rattle.gtd_hours_grammar.specs.declared.place.Place.{Place}
-use Rattle.gtd_hours_grammar.specs.Grammar.{by_place, with_years}
+use Rattle.gtd_hours_moves.specs.declared.place.Place.{Place}
+use Rattle.gtd_hours_moves.specs.Grammar.{by_place, with_years}
 use Rattle.gtd_hours_grammar.specs.Faults.{dash_kind, day_kind, is_offset, is_told_before, plus_kind, weekday_kind}
-use Rattle.gtd_hours_grammar.specs.Sound.{takes_number, takes_time}
-use Rattle.gtd_hours_grammar.specs.Runs.{is_judged}
+use Rattle.gtd_hours_moves.specs.Sound.{takes_number, takes_time}
+use Rattle.gtd_hours_moves.specs.Runs.{is_judged}
 
 abbrev pub range_if : Bool → FaultKind
 range_if b = if b then fault.Range else fault.Unexpected

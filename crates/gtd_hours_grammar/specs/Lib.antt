@@ -1,9 +1,3 @@
-pub mod Terms
-pub mod Grammar
-pub mod Places
-pub mod Sound
-pub mod Moves
-pub mod Runs
 pub mod Faults
 pub mod Kinds
 pub mod KindNames

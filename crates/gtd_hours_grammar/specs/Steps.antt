@@ -5,15 +5,15 @@ use Rattle.gtd_hours_tokens.specs.Lexing.{AreTokens, IsTokenFault, Reads}
 use Rattle.gtd_hours_tokens.specs.facts.WholeText.{HasRead as HasReadUpTo}
 use Rattle.gtd_hours_tokens.specs.declared.token.BadToken.{BadToken}
 use Rattle.gtd_hours_parts.specs.declared.part.Part.{Part}
-use Rattle.gtd_hours_grammar.specs.Terms.{Token, TokenKind, Piece, Place, Move}
-use Rattle.gtd_hours_grammar.specs.declared.place.Place.TheVariants as places
+use Rattle.gtd_hours_moves.specs.Terms.{Token, TokenKind, Piece, Place, Move}
+use Rattle.gtd_hours_moves.specs.declared.place.Place.TheVariants as places
 use Rattle.gtd_hours_grammar.specs.declared.reading.Reading.{Reading}
-use Rattle.gtd_hours_grammar.specs.Grammar.{Demand}
+use Rattle.gtd_hours_moves.specs.Grammar.{Demand}
 use Rattle.gtd_hours_grammar.specs.Faults.{is_offset, kind_before, kinds, last_from, last_kind}
-use Rattle.gtd_hours_grammar.specs.Places.{Rest}
-use Rattle.gtd_hours_grammar.specs.Sound.{Fits, IsPlace}
-use Rattle.gtd_hours_grammar.specs.Moves.{next_move, rank}
-use Rattle.gtd_hours_grammar.specs.Runs.{Runs, first, from, is_after}
+use Rattle.gtd_hours_moves.specs.Places.{Rest}
+use Rattle.gtd_hours_moves.specs.Sound.{Fits, IsPlace}
+use Rattle.gtd_hours_moves.specs.Moves.{next_move, rank}
+use Rattle.gtd_hours_moves.specs.Runs.{Runs, first, from, is_after}
 use Rattle.gtd_hours_grammar.specs.Kinds.{misfit_of, place_of}
 use Rattle.gtd_hours_grammar.specs.declared.fault.FaultKind.{FaultKind}
 use Rattle.gtd_hours_grammar.specs.declared.fault.FaultKind.TheVariants as fault

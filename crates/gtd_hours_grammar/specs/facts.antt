@@ -1,13 +1,2 @@
-pub mod RunSteps
-pub mod OneRun
-pub mod FollowBits
-pub mod FollowSteps
-pub mod FollowWeeks
-pub mod FollowYears
-pub mod Reaching
-pub mod FollowWeekdays
-pub mod FollowDays
-pub mod FollowDates
-pub mod FollowRuns
 pub mod FirstFault
 pub mod OneReading

@@ -8,17 +8,17 @@ ghost use Rattle.gtd_hours_parts.specs.declared.piece.Piece.{Piece};
 ghost use Rattle.gtd_hours_grammar.specs.Faults.{IsFirstFault, IsHoursText, dash_kind, day_kind, is_few, is_offset};
 ghost use Rattle.gtd_hours_grammar.specs.Faults.{is_slash, is_told_before, plus_kind, weekday_kind};
 ghost use Rattle.gtd_hours_grammar.specs.Kinds.{misfit_of, number_misfit, place_of, range_if};
-ghost use Rattle.gtd_hours_grammar.specs.Runs.{IsGood};
-ghost use Rattle.gtd_hours_grammar.specs.Sound.{IsPlace};
+ghost use Rattle.gtd_hours_moves.specs.Runs.{IsGood};
+ghost use Rattle.gtd_hours_moves.specs.Sound.{IsPlace};
 ghost use Rattle.gtd_hours_parts.specs.SoundPieces.{IsPiece};
 ghost use Rattle.gtd_hours_parts.specs.Values.{IsPartOf};
 ghost use Rattle.gtd_hours_grammar.specs.Steps.{IsEndOrFault, IsMove, IsReading, IsToldAt, advanced, bad_token, fault_at};
 ghost use Rattle.gtd_hours_grammar.specs.Steps.{kind_of, moves_left};
 
 use crate::fault::{FaultKind, HoursFault};
-use crate::fits::{fits, is_judged, is_step_of_years, takes_number, takes_time};
-use crate::moves::next_move;
-use crate::place::{Move, Place};
+use gtd_hours_moves::{
+    Move, Place, fits, is_judged, is_step_of_years, next_move, takes_number, takes_time,
+};
 use gtd_hours_parts::{Part, part_of};
 use gtd_hours_tokens::{BadToken, Token, TokenKind, check_tokens, next_token};
 

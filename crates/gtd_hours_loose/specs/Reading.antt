@@ -3,7 +3,7 @@ use Rattle.std.specs.Prelude.{ℕ, List, ◌≡◌, length, Some, None}
 use Rattle.gtd_hours_grammar.specs.Faults.{IsFirstFault, IsHoursText}
 use Rattle.gtd_hours_grammar.specs.declared.fault.FaultKind.TheVariants as kind
 use Rattle.gtd_hours_grammar.specs.declared.fault.HoursFault.{HoursFault}
-use Rattle.gtd_hours_grammar.specs.Terms.{Piece}
+use Rattle.gtd_hours_moves.specs.Terms.{Piece}
 use Rattle.gtd_hours_text.specs.Standing.{StandsFor}
 use Rattle.gtd_hours_text.specs.declared.reader.HoursTextFault.{HoursTextFault}
 use Rattle.gtd_hours_text.specs.declared.reader.HoursTextFault.TheVariants as text_fault

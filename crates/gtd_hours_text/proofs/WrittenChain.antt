@@ -10,8 +10,8 @@ use Rattle.gtd_hours.specs.declared.hours.Selector.{Selector}
 use Rattle.gtd_hours.specs.Writable.{is_month_days, is_weekdays, is_weeks, is_years, kind_if, selectors}
 use Rattle.gtd_hours.specs.Written.{is_some_kind, kind_text, kinds_text}
 use Rattle.gtd_hours_text.proofs.WrittenTerms.{TokenKind, Piece, Stage}
-use Rattle.gtd_hours_grammar.specs.declared.stage.Stage.TheVariants as stage
-use Rattle.gtd_hours_grammar.specs.Grammar.{Follow, in_full, list_goes_on, order, precedes}
+use Rattle.gtd_hours_moves.specs.declared.stage.Stage.TheVariants as stage
+use Rattle.gtd_hours_moves.specs.Grammar.{Follow, in_full, list_goes_on, order, precedes}
 use Rattle.gtd_hours_text.proofs.WrittenTokens.{Anything, Apart, Spelt, empty_spelt, joined, space_spelt}
 use Rattle.gtd_hours_text.proofs.WrittenItems.{Contents, Says, only_month_days, only_weekdays, only_weeks, only_years, plus}
 use Rattle.gtd_hours_text.proofs.WrittenItems.{says_joined, says_nothing}

@@ -29,8 +29,8 @@ use Rattle.gtd_hours_parts.specs.declared.piece.LastDate.{LastDate}
 use Rattle.gtd_hours_parts.specs.declared.piece.LastDate.TheVariants as last_date
 use Rattle.gtd_hours_parts.specs.declared.piece.WrittenDate.{WrittenDate}
 use Rattle.gtd_hours_parts.specs.Pieces.{AreWrittenDates, AreWrittenTimes, IsWrittenDate}
-use Rattle.gtd_hours_grammar.specs.Grammar.{IsDates, IsMonthDays, IsOffset, IsPlaces, IsTimes, IsWeekdays, Suits, date_before}
-use Rattle.gtd_hours_grammar.specs.Grammar.{in_full, none as no_more, offset_before, range_to, sign}
+use Rattle.gtd_hours_moves.specs.Grammar.{IsDates, IsMonthDays, IsOffset, IsPlaces, IsTimes, IsWeekdays, Suits, date_before}
+use Rattle.gtd_hours_moves.specs.Grammar.{in_full, none as no_more, offset_before, range_to, sign}
 use Rattle.gtd_hours_parts.specs.declared.piece.Offset.{Offset}
 use Rattle.gtd_hours_parts.specs.declared.piece.Piece.{Piece}
 use Rattle.gtd_hours_text.specs.Standing.{AllWeekdays, AreMoved, ArePlaces, AreSelectors, offset_in}

@@ -14,9 +14,9 @@ use Rattle.gtd_hours.specs.Written.{needs_word, rule_text, rules_text}
 use Rattle.gtd_hours_tokens.specs.declared.token.TokenKind.TheVariants as token
 use Rattle.gtd_hours_text.proofs.WrittenTerms.{TokenKind, Piece, Stage}
 use Rattle.gtd_hours_parts.specs.declared.piece.Piece.TheVariants as piece
-use Rattle.gtd_hours_grammar.specs.declared.stage.Stage.TheVariants as stage
+use Rattle.gtd_hours_moves.specs.declared.stage.Stage.TheVariants as stage
 use Rattle.gtd_hours_grammar.specs.Faults.{IsHoursText}
-use Rattle.gtd_hours_grammar.specs.Grammar.{Follow, in_full, list_goes_on, precedes}
+use Rattle.gtd_hours_moves.specs.Grammar.{Follow, in_full, list_goes_on, precedes}
 use Rattle.gtd_hours_text.specs.Standing.{AreRules, IsRule, StandsFor, is_one_rule}
 use Rattle.gtd_hours_text.proofs.WrittenTokens.{Anything, Apart, Spells, Spelt}
 use Rattle.gtd_hours_text.proofs.WrittenTokens.{all_placed, joined, loose, sign_spelt, space_spelt}

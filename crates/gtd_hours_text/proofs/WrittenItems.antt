@@ -10,8 +10,8 @@ use Rattle.gtd_hours_tokens.specs.declared.token.TokenKind.TheVariants as token
 use Rattle.gtd_hours_text.proofs.WrittenTerms.{TokenKind, Piece}
 use Rattle.gtd_hours_parts.specs.declared.piece.Offset.{Offset}
 use Rattle.gtd_hours_parts.specs.declared.piece.Piece.TheVariants as piece
-use Rattle.gtd_hours_grammar.specs.declared.stage.Stage.TheVariants as stage
-use Rattle.gtd_hours_grammar.specs.Grammar.{Listed, More, Text, list_goes_on, none as no_more, comma as one_more}
+use Rattle.gtd_hours_moves.specs.declared.stage.Stage.TheVariants as stage
+use Rattle.gtd_hours_moves.specs.Grammar.{Listed, More, Text, list_goes_on, none as no_more, comma as one_more}
 use Rattle.gtd_hours_text.specs.Standing.{AllSelectors, AllTimes, AllWeekdays, AreMoved, AreSelectors, is_closed, is_one_rule}
 use Rattle.gtd_hours_text.specs.Standing.{names_month_days, names_times, names_weekdays, names_weeks, names_years}
 use Rattle.gtd_hours_text.proofs.WrittenTokens.{Apart, Spelt, empty_spelt, joined, loose, sign_spelt}

@@ -10,9 +10,9 @@ use Rattle.gtd_hours.specs.Written.{kind_text, more_selectors_text, selector_tex
 use Rattle.gtd_hours_tokens.specs.declared.token.TokenKind.TheVariants as token
 use Rattle.gtd_hours_text.proofs.WrittenTerms.{TokenKind, Piece, Stage}
 use Rattle.gtd_hours_parts.specs.declared.piece.Piece.TheVariants as piece
-use Rattle.gtd_hours_grammar.specs.declared.stage.Stage.TheVariants as stage
-use Rattle.gtd_hours_grammar.specs.Grammar.{Follow, IsMonthDays, IsWeekdays, IsWeeks, IsYears, begins_with_date, in_full}
-use Rattle.gtd_hours_grammar.specs.Grammar.{list_goes_on, precedes}
+use Rattle.gtd_hours_moves.specs.declared.stage.Stage.TheVariants as stage
+use Rattle.gtd_hours_moves.specs.Grammar.{Follow, IsMonthDays, IsWeekdays, IsWeeks, IsYears, begins_with_date, in_full}
+use Rattle.gtd_hours_moves.specs.Grammar.{list_goes_on, precedes}
 use Rattle.gtd_hours_text.proofs.WrittenTokens.{Anything, Apart, IsName, Spelt, joined, loose, space_spelt, word_spelt}
 use Rattle.gtd_hours_text.proofs.WrittenItems.{Contents, Item, Items, MoreItems}
 use Rattle.gtd_hours_text.proofs.WrittenItems.{Says, items, more_items, no_items, only_month_days}

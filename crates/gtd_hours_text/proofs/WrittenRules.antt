@@ -16,8 +16,8 @@ use Rattle.gtd_hours.specs.Written.{times_text}
 use Rattle.gtd_hours_tokens.specs.declared.token.TokenKind.TheVariants as token
 use Rattle.gtd_hours_text.proofs.WrittenTerms.{TokenKind, Piece, Stage}
 use Rattle.gtd_hours_parts.specs.declared.piece.Piece.TheVariants as piece
-use Rattle.gtd_hours_grammar.specs.declared.stage.Stage.TheVariants as stage
-use Rattle.gtd_hours_grammar.specs.Grammar.{Follow, IsTimes, in_full, list_goes_on, precedes}
+use Rattle.gtd_hours_moves.specs.declared.stage.Stage.TheVariants as stage
+use Rattle.gtd_hours_moves.specs.Grammar.{Follow, IsTimes, in_full, list_goes_on, precedes}
 use Rattle.gtd_hours_text.specs.Standing.{AllSelectors, AllTimes, AllWeekdays, IsRule, is_one_rule, modifier_of}
 use Rattle.gtd_hours_text.specs.Standing.{names_month_days}
 use Rattle.gtd_hours_text.specs.Standing.{names_times, names_weekdays, names_weeks, names_years}

@@ -15,7 +15,7 @@ use Rattle.gtd_hours_parts.specs.Numbers.{IsDayNumber, IsPlaceNumber, IsStepNumb
 use Rattle.gtd_hours_text.proofs.WrittenTerms.{TokenKind, Piece}
 use Rattle.gtd_hours_parts.specs.declared.piece.Piece.TheVariants as piece
 use Rattle.gtd_hours_parts.specs.Pieces.{IsRange}
-use Rattle.gtd_hours_grammar.specs.Grammar.{IsWeeks, IsYears, begins_with_date, in_full}
+use Rattle.gtd_hours_moves.specs.Grammar.{IsWeeks, IsYears, begins_with_date, in_full}
 use Rattle.gtd_hours_text.specs.Standing.{AreSelectors}
 use Rattle.gtd_hours_text.proofs.WrittenTokens.{decimal_spelt}
 use Rattle.gtd_hours_text.proofs.WrittenParts.{length_of_decimal, ranged, step_kinds}

@@ -2,4 +2,4 @@
 pub use Rattle.gtd_hours_tokens.specs.declared.token.Token.{Token}
 pub use Rattle.gtd_hours_tokens.specs.declared.token.TokenKind.{TokenKind}
 pub use Rattle.gtd_hours_parts.specs.declared.piece.Piece.{Piece}
-pub use Rattle.gtd_hours_grammar.specs.declared.stage.Stage.{Stage}
+pub use Rattle.gtd_hours_moves.specs.declared.stage.Stage.{Stage}

@@ -7,10 +7,10 @@ use Rattle.gtd_hours_tokens.specs.declared.token.TokenKind.TheVariants as token
 use Rattle.gtd_hours_grammar.specs.declared.fault.FaultKind.{FaultKind}
 use Rattle.gtd_hours_grammar.specs.declared.fault.FaultKind.TheVariants as fault
 use Rattle.gtd_hours_grammar.specs.declared.fault.HoursFault.{HoursFault}
-use Rattle.gtd_hours_grammar.specs.Terms.{Token, TokenKind, Piece, Stage}
-use Rattle.gtd_hours_grammar.specs.declared.stage.Stage.TheVariants as stage
-use Rattle.gtd_hours_grammar.specs.Grammar.{AreHours, CanGoOn, Follow, IsDates, IsMonthDays, IsWeeks, IsYears, Listed, More}
-use Rattle.gtd_hours_grammar.specs.Grammar.{in_full, so_far}
+use Rattle.gtd_hours_moves.specs.Terms.{Token, TokenKind, Piece, Stage}
+use Rattle.gtd_hours_moves.specs.declared.stage.Stage.TheVariants as stage
+use Rattle.gtd_hours_moves.specs.Grammar.{AreHours, CanGoOn, Follow, IsDates, IsMonthDays, IsWeeks, IsYears, Listed, More}
+use Rattle.gtd_hours_moves.specs.Grammar.{in_full, so_far}
 use Rattle.gtd_hours_parts.specs.Pieces.{day_behind}
 use Rattle.gtd_hours_parts.specs.declared.piece.WrittenDate.{WrittenDate}
 use Rattle.gtd_hours_grammar.specs.Faults.{IsFirstFault, IsHoursText, IsMisfit, IsMisfitKind, kinds, told_at}

@@ -2,7 +2,7 @@
 -- possible, the text has been read in full, or the fault is its first.
 use Rattle.std.proofs.Common.{rules, ◌≡◌, ◌<◌, ◌≤◌, Option, None, ℕ, arith, subst}
 use Rattle.gtd_hours_tokens.specs.declared.token.TokenKind.{TokenKind}
-use Rattle.gtd_hours_grammar.specs.declared.place.Move.{Move}
+use Rattle.gtd_hours_moves.specs.declared.place.Move.{Move}
 use Rattle.gtd_hours_grammar.specs.Steps.{IsMove}
 use Rattle.gtd_hours_grammar.proofs.ReadLemmas.{fewer, stands_by}
 use Rattle.gtd_hours_grammar.proofs.ReadingLemmas.{fault_read, gives_piece, hours_read, inside, keeps_more, read_to}

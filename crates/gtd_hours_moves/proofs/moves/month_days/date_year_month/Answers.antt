@@ -1,0 +1,9 @@
+-- A number in range behind `2024 Dec` is the day of a date that has a year.
+use Rattle.gtd_hours_moves.proofs.GoodItems.{year_month_date_good}
+use Rattle.std.proofs.Common.{rules}
+use Rattle.gtd_hours_moves.proofs.moves.month_days.date_year_month.Goals as goal
+
+pub returns-in-Some-Number-clause-good : goal.returns-in-Some-Number-clause-good
+returns-in-Some-Number-clause-good c =
+    rw (c.take.ensures, c.written.ensures) (year_month_date_good c.args.year c.args.month c.in-Some-Number.value
+    c.in-Some-Number.digits c.args.next c.args.fits (search rules) c.if-fits.true c.requires.fit c.requires.sound)

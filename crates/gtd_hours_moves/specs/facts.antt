@@ -1,0 +1,11 @@
+pub mod RunSteps
+pub mod OneRun
+pub mod FollowBits
+pub mod FollowSteps
+pub mod FollowWeeks
+pub mod FollowYears
+pub mod Reaching
+pub mod FollowWeekdays
+pub mod FollowDays
+pub mod FollowDates
+pub mod FollowRuns
