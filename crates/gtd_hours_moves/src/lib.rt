@@ -5,12 +5,12 @@
 //! grammar.
 #![tactic(auto)]
 
-mod fits;
+mod fit;
 mod moves;
 mod place;
 mod stage;
 
-pub use fits::{fits, is_judged, is_step_of_years, takes_number, takes_time};
+pub use fit::{fits, is_judged, is_step_of_years, takes_number, takes_time};
 pub use moves::next_move;
 pub use place::{Move, Place};
 pub use stage::Stage;

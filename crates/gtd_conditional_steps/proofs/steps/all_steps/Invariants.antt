@@ -1,0 +1,9 @@
+-- The steps of the rows so far.
+use Rattle.gtd_conditional_steps.specs.Sayings.{said_before}
+use Rattle.gtd_conditional_steps.specs.Steps.{AreStepsOf}
+use Rattle.gtd_conditional_steps.proofs.steps.all_steps.Given as goal
+
+abbrev pub invariant-loop-mode : goal.invariant-loop-mode
+invariant-loop-mode l =
+    AreStepsOf l.asked.means.now.rows.items l.asked.direction
+    (said_before l.mode l.subject l.asked.means.now.rows.items l.asked.direction l.tags) l.steps.items

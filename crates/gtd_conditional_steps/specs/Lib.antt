@@ -1,0 +1,4 @@
+pub mod Sayings
+pub mod Closing
+pub mod Steps
+pub mod Hours
