@@ -1,5 +1,5 @@
 -- Records that repeat after a period, found place by place.
-use Rattle.std.proofs.Common.{◌≡◌, true, sym, subst, arith, ◌<◌, ◌⊎◌, inl, inr, ◌↔◌, ℕ, List, [], ◌∷◌, ◌++◌, length}
+use Rattle.std.proofs.Common.{◌≡◌, true, sym, subst, arith, ◌<◌, inl, inr, ◌↔◌, ℕ, List, [], ◌∷◌, ◌++◌, length}
 use Rattle.std.specs.Prelude.{ℤ, ◌+ℤ◌, ◌≤ℤ◌, slice_index_or, Option, Some, None, is_some, IfSome}
 use Rattle.gtd_eval.specs.Periods.{Period, Week, period_seconds, RepeatsFrom}
 use Rattle.gtd_eval.specs.facts.PeriodFacts.{from-longer, short-period}

@@ -1,6 +1,6 @@
 //! The cursors of the records that close an element.
 
-ghost use Rattle.std.specs.Prelude.{◌≡◌, ◌≤◌, ◌<◌, ◌+◌, ◌↔◌, ◌⊎◌, ℤ, IfOk, OnOk, vec_len};
+ghost use Rattle.std.specs.Prelude.{◌≡◌, ◌≤◌, ◌<◌, ◌+◌, ◌↔◌, ℤ, IfOk, vec_len};
 ghost use Rattle.gtd_core.specs.Limits.{most_nodes};
 ghost use Rattle.gtd_core.specs.Seconds.{Within};
 ghost use Rattle.gtd_core.specs.Whole.{whole};

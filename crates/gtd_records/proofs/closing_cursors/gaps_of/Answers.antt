@@ -1,5 +1,4 @@
 -- Where closed seconds repeat in the horizon, so do those between them.
-use Rattle.std.proofs.Common.{arith}
 use Rattle.gtd_eval.specs.Cursors.{cursor_list}
 use Rattle.gtd_records.proofs.PeriodFacts.{gaps-repeat}
 use Rattle.gtd_records.proofs.closing_cursors.gaps_of.Goals as goal
