@@ -1,5 +1,6 @@
 -- The cursors of the restrictions that close an element, and what they have together.
-use Rattle.std.proofs.Common.{◌≡◌, refl, zero, suc, sym, subst, arith, ◌<◌, ◌≤◌, ◌+◌, ◌⊎◌, inl, inr, ◌↔◌, ℕ, List, [], ◌∷◌, ◌++◌, length}
+use Rattle.std.proofs.Common.{refl, zero, suc, sym, subst, arith, inl, inr, length}
+use Rattle.std.proofs.Common.{◌≡◌, ◌<◌, ◌≤◌, ◌+◌, ◌⊎◌, ◌↔◌, ℕ, List, [], ◌∷◌, ◌++◌}
 use Rattle.std.specs.Prelude.{slice_index_or, ℤ, Result, Ok, Err, IfOk}
 use Rattle.gtd_core.specs.Seconds.{Interval, Within}
 use Rattle.gtd_core.specs.Whole.{whole}
