@@ -1,6 +1,7 @@
 #!/usr/bin/env python3
-"""A plain model of which later rules of opening hours hide hours of an earlier one, and of the text with a comma that keeps
-them, over tests/hours_model.py. Run by itself, it compares what it says with the worked rows in hours/hidden.csv.
+"""A plain model of which later rules of opening hours hide hours of an earlier one, of the text with a comma that keeps them, and
+of all warnings of a text, over tests/hours_model.py and tests/loose_model.py. Run by itself, it compares what it says with the
+worked rows in hours/hidden.csv.
 
 Rules are numbered from 0."""
 import csv
@@ -11,6 +12,7 @@ import sys
 from typing import NamedTuple
 
 import hours_model
+import loose_model
 
 HERE = os.path.dirname(os.path.abspath(__file__))
 FIRST, DAYS = datetime.date(2024, 1, 1), 800
@@ -91,6 +93,44 @@ def with_comma(text, number):
     joined = ";".join(parts[:place]) + word + "," + ";".join(parts[place:])
     form = hours_model.print_rules(hours_model.read(joined.encode()))
     return re.sub("-([0-9]{2}):", lambda end: end[0] if end[0] in text else f"-{int(end[1]) - 24:02}:", form)
+
+
+def strict_parts(given, german):
+    """The strict text, and the parts of which it is made, if the text is written loosely."""
+    try:
+        hours_model.read(given)
+        return given.decode(), None
+    except hours_model.Fault:
+        parts = loose_model.mended(given, german)
+        return loose_model.strict_text(parts), parts
+
+
+def written_place(parts, place):
+    """The place in the text of the token that begins at this place of the strict text."""
+    start = 0
+    for part in parts:
+        if start == place:
+            return part.place
+        start += len(part.form) + 1
+    raise AssertionError("no token begins there")
+
+
+def warnings(given, german=False):
+    """The warnings of a text in their order: kind, place and form. At one place a loose form comes before a rule."""
+    strict, parts = strict_parts(given, german)
+    found = loose_model.warnings(parts) if parts else []
+    rules = read(strict)
+    for number in hiding_rules(rules):
+        before = ";".join(strict.split(";")[:sum(not rule.adds for rule in rules[1:number + 1])]) + ";"
+        place = len(before) + len(strict[len(before):]) - len(strict[len(before):].lstrip(" "))
+        form = with_comma(strict.replace(" - ", "-"), number)
+        found.append(("Hides", written_place(parts, place) if parts else place, form))
+    return sorted(found, key=lambda warning: (warning[1], warning[0] == "Hides"))
+
+
+def told(given, german=False):
+    """The same in words."""
+    return [f"{kind} at {place}" + (f": {form}" if form else "") for kind, place, form in warnings(given, german)]
 
 
 def keeps(text, form):

@@ -3,6 +3,7 @@ pub mod Behind
 pub mod Mending
 pub mod StrictForms
 pub mod Reading
+pub mod Manners
 pub use Rattle.gtd_hours_loose_tokens.specs.Clock
 pub use Rattle.gtd_hours_loose_tokens.specs.Lexing
 pub use Rattle.gtd_hours_loose_tokens.specs.Signs

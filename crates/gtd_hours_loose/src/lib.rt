@@ -5,14 +5,16 @@
 
 mod behind;
 pub mod laws;
+mod manner;
 mod mending;
 mod pairs;
 mod reader;
 mod strict;
 mod warnings;
 
+pub use manner::{Manner, read_hours_in};
 pub use mending::strict_form;
 pub use pairs::pair_fault;
 pub use reader::{LooseFault, LooseHours, LooseReadFault, read_loose_hours};
-pub use strict::{Part, StrictForm};
-pub use warnings::{push_warnings, written_place};
+pub use strict::{Part, StrictForm, stretch};
+pub use warnings::{is_loose, push_warnings, written_place};

@@ -7,8 +7,8 @@ use crate::strict::{Part, StrictForm, stretch};
 use itoa::Buffer;
 use std::alloc::AllocError;
 
-// Whether the strict form of a part is not what is written.
-fn is_loose(text: &[u8], strict: &[u8], part: Part) -> bool
+/// Whether the strict form of a part, in the strict text, is not what is written in the text.
+pub fn is_loose(text: &[u8], strict: &[u8], part: Part) -> bool
     ensures { result ≡ is_loose text.now strict.now part }
 {
     stretch(text, part.from, part.to) != stretch(strict, part.start, part.end)

@@ -1,0 +1,4 @@
+pub mod Commas
+pub mod Forms
+pub mod Lines
+pub mod Warnings
