@@ -3,7 +3,7 @@ use Rattle.std.proofs.Common.{◌≡◌, ◌∙◌, sym, ap, subst, ℕ, List, l
 use Rattle.std.specs.Prelude.{Some, None, Ok, Err}
 use Rattle.gtd_hours.specs.declared.hours.Hours.{Hours}
 use Rattle.gtd_hours_grammar.specs.Faults.{IsFirstFault, IsHoursText}
-use Rattle.gtd_hours_grammar.specs.Terms.{Piece}
+use Rattle.gtd_hours_moves.specs.Terms.{Piece}
 use Rattle.gtd_hours_grammar.specs.declared.fault.HoursFault.{HoursFault}
 use Rattle.gtd_hours_text.specs.Standing.{StandsFor}
 use Rattle.gtd_hours_loose.specs.declared.manner.Manner.{Manner}
