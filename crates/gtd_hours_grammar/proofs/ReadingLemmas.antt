@@ -20,7 +20,8 @@ use Rattle.gtd_hours_grammar.proofs.ReadLemmas.{Stands, advance, fewer, front_re
 -- ---- the front, and a move
 
 pub at_begin : (text : List ℕ)
-    → IsReading text (record { place = 0; behind = places.Front; at = places.Front; before_last = None; last = None; from = 0 }) []
+    → IsReading text
+    (record { place = 0; behind = places.Front; at = places.Front; before_last = None; last = None; from = 0 }) []
 at_begin text = record {
   has_read = at_front text;
   inside = omega (arith);

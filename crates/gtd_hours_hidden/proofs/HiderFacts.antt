@@ -9,7 +9,8 @@ use Rattle.gtd_hours_hidden.specs.Hides.{HasOtherHours, Hides, HidesOf, has_hour
 
 -- ---- rules by their numbers
 
-pub is_at : (rules : List Rule) (k : ℕ) (rule : Rule) → k < length rules → rule ≡ get_or rules k rule → slice_get rules k ≡ Some rule
+pub is_at : (rules : List Rule) (k : ℕ) (rule : Rule) → k < length rules → rule ≡ get_or rules k rule
+    → slice_get rules k ≡ Some rule
 is_at [] k rule h e = absurd (omega arith)
 is_at (x ∷ rules) zero rule h e = ap Some (sym e)
 is_at (x ∷ rules) (suc k) rule h e = is_at rules k rule (omega arith) e
@@ -42,8 +43,8 @@ free-more rules place earlier k later free at other i rule a b e =
     i b a e
 
 -- what hides does so of this rule
-is-earlier : (rules : List Rule) (place n : ℕ) (earlier : Rule) → slice_get rules place ≡ Some earlier → (h : HidesOf rules place n)
-    → h.earlier ≡ earlier
+is-earlier : (rules : List Rule) (place n : ℕ) (earlier : Rule) → slice_get rules place ≡ Some earlier
+    → (h : HidesOf rules place n) → h.earlier ≡ earlier
 is-earlier rules place n earlier at h = same rules place h.earlier earlier h.is_earlier at
 
 takes : (rules : List Rule) (place n : ℕ) (earlier : Rule) → slice_get rules place ≡ Some earlier → (h : HidesOf rules place n)

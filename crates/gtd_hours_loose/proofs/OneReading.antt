@@ -29,8 +29,8 @@ one_list : (names : DayNames) (text : List ℕ) (xs ys : List LooseToken) → te
     → text_tokens names text ≡ Ok ys → xs ≡ ys
 one_list names text xs ys p q = cc
 
-same_tokens : (names : DayNames) (text : List ℕ) (a b : StrictForm) (p : IsStrictForm names text a) (q : IsStrictForm names text b)
-    → p.tokens ≡ q.tokens
+same_tokens : (names : DayNames) (text : List ℕ) (a b : StrictForm) (p : IsStrictForm names text a)
+    (q : IsStrictForm names text b) → p.tokens ≡ q.tokens
 same_tokens names text a b p q = one_list names text p.tokens q.tokens p.are q.are
 
 same_text : (names : DayNames) (text : List ℕ) (a b : StrictForm) → IsStrictForm names text a → IsStrictForm names text b

@@ -2,7 +2,8 @@
 
 ghost use Rattle.std.specs.Prelude.{◌≡◌, ◌<◌, ◌≤◌, [], IfOk, OnOk, length};
 ghost use Rattle.std.specs.List.{prefix_len};
-ghost use Rattle.gtd_hours_warnings.specs.Warnings.{AddsHides, AddsLoose, AddsLooseForm, AreWarnings, IsHidesWarning, IsLooseWarning};
+ghost use Rattle.gtd_hours_warnings.specs.Warnings.{AddsHides, AddsLoose, AddsLooseForm, AreWarnings, IsHidesWarning};
+ghost use Rattle.gtd_hours_warnings.specs.Warnings.{IsLooseWarning};
 ghost use Rattle.gtd_hours_warnings.specs.Warnings.{AreRules, IsPutIf, is_by, place_in, put_in, strict_text};
 
 use crate::commas::{rule_place, semicolon_of, word_before};
