@@ -148,7 +148,8 @@ judged_never demand text r given t is k same h goes e p after follow =
     unjudged_refused demand r.at at.p k after goes.fits e goes.bit (sym goes.computed) at.runs
 
 judged_follow : (demand : Demand) (text : List ℕ) (r : Reading) (given : List Piece) (t : Token)
-    (is : IsTokenReading text r given) (k : TokenKind) → t.kind ≡ k → IsNext text r.place (Ok (Some t)) → (end : JudgedEnding demand r.at k)
+    (is : IsTokenReading text r given) (k : TokenKind)
+    → t.kind ≡ k → IsNext text r.place (Ok (Some t)) → (end : JudgedEnding demand r.at k)
     → Follow demand stage.Front (is.one ++ (is.two ++ end.p)) (kinds is.read.before ++ k ∷ [])
 judged_follow demand text r given t is k same h end =
     let gives = subst (λ (n : Option TokenKind). GivesTo r.behind r.at n is.two)
