@@ -7,7 +7,8 @@ use Rattle.gtd_hours_tokens.specs.Lexing.{AreTokens, IsNext, IsTokenFault, Reads
 use Rattle.gtd_hours_tokens.specs.facts.TokenForms.{ends_inside, goes_on}
 use Rattle.gtd_hours_grammar.specs.declared.fault.FaultKind.TheVariants as fault
 use Rattle.gtd_hours_grammar.specs.declared.fault.HoursFault.{HoursFault}
-use Rattle.gtd_hours_moves.specs.Terms.{Token, Piece, Move}
+use Rattle.gtd_hours_moves.specs.Terms.{Token, Piece}
+use Rattle.gtd_hours_moves.specs.declared.place.Move.{Move}
 use Rattle.gtd_hours_moves.specs.declared.place.Place.TheVariants as places
 use Rattle.gtd_hours_grammar.specs.declared.reading.Reading.{Reading}
 use Rattle.gtd_hours_grammar.specs.Faults.{IsFirstFault, IsHoursText}

@@ -8,7 +8,8 @@ use Rattle.gtd_hours_tokens.specs.Lexing.{AreTokens, IsNext}
 use Rattle.gtd_hours_tokens.specs.declared.token.TokenKind.TheVariants as token
 use Rattle.gtd_hours_grammar.specs.declared.fault.FaultKind.{FaultKind}
 use Rattle.gtd_hours_grammar.specs.declared.fault.FaultKind.TheVariants as fault
-use Rattle.gtd_hours_moves.specs.Terms.{Token, TokenKind, Piece, Place}
+use Rattle.gtd_hours_moves.specs.Terms.{Token, TokenKind, Piece}
+use Rattle.gtd_hours_moves.specs.declared.place.Place.{Place}
 use Rattle.gtd_hours_moves.specs.declared.stage.Stage.TheVariants as stage
 use Rattle.gtd_hours_moves.specs.declared.place.Place.TheVariants as places
 use Rattle.gtd_hours_grammar.specs.declared.reading.Reading.{Reading}

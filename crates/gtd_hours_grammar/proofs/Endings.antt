@@ -11,7 +11,9 @@ use Rattle.gtd_hours_parts.specs.Times.{IsBegin}
 use Rattle.gtd_hours_parts.specs.declared.piece.Offset.{Offset}
 use Rattle.gtd_hours_parts.specs.declared.piece.WrittenDate.{WrittenDate}
 use Rattle.gtd_hours_parts.specs.declared.piece.LastDate.TheVariants as last_date
-use Rattle.gtd_hours_moves.specs.Terms.{TokenKind, Piece, Stage, Place}
+use Rattle.gtd_hours_moves.specs.Terms.{TokenKind, Piece}
+use Rattle.gtd_hours_moves.specs.declared.stage.Stage.{Stage}
+use Rattle.gtd_hours_moves.specs.declared.place.Place.{Place}
 use Rattle.gtd_hours_parts.specs.declared.piece.Piece.TheVariants as piece
 use Rattle.gtd_hours_moves.specs.declared.stage.Stage.TheVariants as stage
 use Rattle.gtd_hours_moves.specs.declared.place.Place.TheVariants as places

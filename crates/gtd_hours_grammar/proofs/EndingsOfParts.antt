@@ -13,7 +13,8 @@ use Rattle.gtd_hours_parts.specs.Dates.{IsDayOfYear, IsWrittenDay}
 use Rattle.gtd_hours_parts.specs.Numbers.{IsYearNumber}
 use Rattle.gtd_hours_parts.specs.Times.{IsBegin, minute_of}
 use Rattle.gtd_hours_parts.specs.declared.piece.WrittenDate.{WrittenDate}
-use Rattle.gtd_hours_moves.specs.Terms.{TokenKind, Piece, Stage}
+use Rattle.gtd_hours_moves.specs.Terms.{TokenKind, Piece}
+use Rattle.gtd_hours_moves.specs.declared.stage.Stage.{Stage}
 use Rattle.gtd_hours_parts.specs.declared.piece.Piece.TheVariants as piece
 use Rattle.gtd_hours_moves.specs.declared.stage.Stage.TheVariants as stage
 use Rattle.gtd_hours_moves.specs.Grammar.{Demand, Follow, IsDates, IsMonthDays, IsOne, IsPlaces, IsTimes, IsYears}

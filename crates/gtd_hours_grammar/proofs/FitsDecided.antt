@@ -14,7 +14,9 @@ use Rattle.gtd_hours_parts.specs.declared.digits.Digits.{Digits}
 use Rattle.gtd_hours_parts.specs.declared.piece.LastDate.{LastDate}
 use Rattle.gtd_hours_parts.specs.declared.piece.LastDate.TheVariants as last_date
 use Rattle.gtd_hours_parts.specs.declared.piece.WrittenDate.{WrittenDate}
-use Rattle.gtd_hours_moves.specs.Terms.{TokenKind, Stage, Place}
+use Rattle.gtd_hours_moves.specs.Terms.{TokenKind}
+use Rattle.gtd_hours_moves.specs.declared.stage.Stage.{Stage}
+use Rattle.gtd_hours_moves.specs.declared.place.Place.{Place}
 use Rattle.gtd_hours_moves.specs.declared.place.Place.TheVariants as places
 use Rattle.gtd_hours_moves.specs.declared.stage.Stage.TheVariants as stage
 use Rattle.gtd_hours_parts.specs.Pieces.{AreWrittenTimes, EndsRange, IsDay, IsLastDay, IsRange, first_day_of, last_day_of}

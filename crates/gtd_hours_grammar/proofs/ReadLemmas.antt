@@ -7,7 +7,9 @@ use Rattle.std.proofs.lemmas.List.{append-nil}
 use Rattle.gtd_hours_tokens.specs.Lexing.{AreTokens, IsNext, Reads}
 use Rattle.gtd_hours_tokens.specs.facts.NextToken.{one_next}
 use Rattle.gtd_hours_tokens.specs.declared.token.BadToken.{BadToken}
-use Rattle.gtd_hours_moves.specs.Terms.{Token, TokenKind, Piece, Place, Move}
+use Rattle.gtd_hours_moves.specs.Terms.{Token, TokenKind, Piece}
+use Rattle.gtd_hours_moves.specs.declared.place.Place.{Place}
+use Rattle.gtd_hours_moves.specs.declared.place.Move.{Move}
 use Rattle.gtd_hours_moves.specs.declared.place.Place.TheVariants as places
 use Rattle.gtd_hours_grammar.specs.declared.reading.Reading.{Reading}
 use Rattle.gtd_hours_moves.specs.Grammar.{Demand}

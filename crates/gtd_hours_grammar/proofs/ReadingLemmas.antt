@@ -4,9 +4,10 @@ use Rattle.std.proofs.Common.{Result, Ok, Err, refl, sym, ap, subst, ◌∙◌, 
 use Rattle.std.specs.Prelude.{IfErr, IfSome}
 use Rattle.std.proofs.lemmas.List.{append-nil}
 use Rattle.gtd_hours_tokens.specs.Lexing.{AreTokens, IsNext, IsTokenFault}
-use Rattle.gtd_hours_tokens.specs.facts.WholeText.{HasRead, all_read, at_front, with_token}
+use Rattle.gtd_hours_tokens.specs.facts.WholeText.{HasRead, all_read, with_token}
 use Rattle.gtd_hours_parts.specs.declared.part.Part.{Part}
-use Rattle.gtd_hours_moves.specs.Terms.{Token, TokenKind, Piece, Move}
+use Rattle.gtd_hours_moves.specs.Terms.{Token, TokenKind, Piece}
+use Rattle.gtd_hours_moves.specs.declared.place.Move.{Move}
 use Rattle.gtd_hours_moves.specs.declared.place.Place.TheVariants as places
 use Rattle.gtd_hours_grammar.specs.declared.fault.HoursFault.{HoursFault}
 use Rattle.gtd_hours_grammar.specs.declared.reading.Reading.{Reading}
@@ -23,11 +24,15 @@ pub at_begin : (text : List ℕ)
     → IsReading text
     (record { place = 0; behind = places.Front; at = places.Front; before_last = None; last = None; from = 0 }) []
 at_begin text = record {
-  has_read = at_front text;
+  before = [];
+  go_on = λ more to read. read;
   inside = omega (arith);
   stands = record {};
   known = λ tokens are. front_read text tokens are;
 }
+
+pub has_read : (text : List ℕ) (r : Reading) (given : List Piece) → IsReading text r given → HasRead text r.place
+has_read text r given is = record { tokens = is.before; go_on = is.go_on }
 
 -- the bytes that have been read, with a token that comes next
 pub read_to : (text : List ℕ) (place : ℕ) (next : Option Token) → HasRead text place → IsNext text place (Ok next)
@@ -52,17 +57,22 @@ stands_behind r t move false = refl
 pub advance_on : (text : List ℕ) (r : Reading) (given : List Piece) (next : Option Token) (move : Move) → IsReading text r given
     → Stands text r next move → IsReading text (advanced r next move) (given ++ with_piece move.piece [])
 advance_on text r given None move is s = record {
-  has_read = is.has_read;
+  before = is.before;
+  go_on = is.go_on;
   inside = is.inside;
   stands = s.good.stands;
   known = λ tokens are. advance text r given None move (is.known tokens are) s;
 }
-advance_on text r given (Some t) move is s = record {
-  has_read = read_behind text r t move move.takes is.has_read (read_to text r.place (Some t) is.has_read s.token);
-  inside = inside_behind text r t move move.takes is.inside s.inside;
-  stands = rw (stands_behind r t move move.takes) s.good.stands;
-  known = λ tokens are. advance text r given (Some t) move (is.known tokens are) s;
-}
+advance_on text r given (Some t) move is s =
+    let h = has_read text r given is in
+    let read = read_behind text r t move move.takes h (read_to text r.place (Some t) h s.token) in
+    record {
+      before = read.tokens;
+      go_on = read.go_on;
+      inside = inside_behind text r t move move.takes is.inside s.inside;
+      stands = rw (stands_behind r t move move.takes) s.good.stands;
+      known = λ tokens are. advance text r given (Some t) move (is.known tokens are) s;
+    }
 
 -- ---- one move after another
 
@@ -97,7 +107,7 @@ gives_piece text start now next move x k s e given is =
 all_known : (text : List ℕ) (r : Reading) (given : List Piece) → IsReading text r given → IsNext text r.place (Ok None)
     → ended text (is_after r.at) ≡ Ok None → IsHoursText text given
 all_known text r given is h same =
-    let all = all_read text r.place is.has_read h in ends_all text r given None (is.known all.0 all.1) h same
+    let all = all_read text r.place (has_read text r given is) h in ends_all text r given None (is.known all.0 all.1) h same
 
 pub hours_read : (text : List ℕ) (r : Reading) (given : List Piece) (next : Option Token)
     (result : Result (Option (Part × Reading)) HoursFault) → IsReading text r given → IsNext text r.place (Ok next)
@@ -117,7 +127,7 @@ pub fault_read : (text : List ℕ) (r : Reading) (given : List Piece) (next : Op
     (result : Result (Option (Part × Reading)) HoursFault) → IsReading text r given → IsNext text r.place (Ok next)
     → IsMove r.at (kind_of next) None → IsEndOrFault text r next result → IfErr result (λ bad. IsFirstFault text bad)
 fault_read text r given None result is h goes same =
-    let all = all_read text r.place is.has_read h in
+    let all = all_read text r.place (has_read text r given is) h in
     rw (same) (ends_fault text r given None (is.known all.0 all.1) h goes)
 fault_read text r given (Some t) (Ok next) is h goes same = absurd same
 fault_read text r given (Some t) (Err bad) is h goes told = told_first text r given t bad is h goes told

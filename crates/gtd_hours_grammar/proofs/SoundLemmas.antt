@@ -5,7 +5,10 @@ use Rattle.gtd_hours.specs.declared.hours.Link.TheVariants as link
 use Rattle.gtd_hours_tokens.specs.declared.token.TokenKind.TheVariants as token
 use Rattle.gtd_hours_parts.specs.declared.digits.Digits.{Digits}
 use Rattle.gtd_hours_parts.specs.declared.piece.LastDate.TheVariants as last_date
-use Rattle.gtd_hours_moves.specs.Terms.{TokenKind, Piece, Stage, Place, Move}
+use Rattle.gtd_hours_moves.specs.Terms.{TokenKind, Piece}
+use Rattle.gtd_hours_moves.specs.declared.stage.Stage.{Stage}
+use Rattle.gtd_hours_moves.specs.declared.place.Place.{Place}
+use Rattle.gtd_hours_moves.specs.declared.place.Move.{Move}
 use Rattle.gtd_hours_parts.specs.declared.piece.Piece.TheVariants as piece
 use Rattle.gtd_hours_parts.specs.declared.piece.WrittenDate.{WrittenDate}
 use Rattle.gtd_hours_moves.specs.declared.stage.Stage.TheVariants as stage

@@ -2,10 +2,11 @@
 use Rattle.std.specs.Prelude.{List, ◌≡◌, ◌↔◌, ℕ, ◌+◌, ◌*◌, ◌-◌, ◌≤◌, Bool, true, false, ◌++◌, length, Option, Some, None, Result}
 use Rattle.std.specs.Prelude.{Ok, Err, ◌⊎◌}
 use Rattle.gtd_hours_tokens.specs.Lexing.{AreTokens, IsTokenFault, Reads}
-use Rattle.gtd_hours_tokens.specs.facts.WholeText.{HasRead as HasReadUpTo}
 use Rattle.gtd_hours_tokens.specs.declared.token.BadToken.{BadToken}
 use Rattle.gtd_hours_parts.specs.declared.part.Part.{Part}
-use Rattle.gtd_hours_moves.specs.Terms.{Token, TokenKind, Piece, Place, Move}
+use Rattle.gtd_hours_moves.specs.Terms.{Token, TokenKind, Piece}
+use Rattle.gtd_hours_moves.specs.declared.place.Place.{Place}
+use Rattle.gtd_hours_moves.specs.declared.place.Move.{Move}
 use Rattle.gtd_hours_moves.specs.declared.place.Place.TheVariants as places
 use Rattle.gtd_hours_grammar.specs.declared.reading.Reading.{Reading}
 use Rattle.gtd_hours_moves.specs.Grammar.{Demand}
@@ -64,7 +65,8 @@ pub record IsTokenReading (text : List ℕ) (reading : Reading) (given : List Pi
 
 -- A reading has come this far in a text, of which only what has been read is known to be tokens, with these pieces.
 pub record IsReading (text : List ℕ) (reading : Reading) (given : List Piece) : Type 0 where
-  pub has_read : HasReadUpTo text reading.place
+  pub before : List Token
+  pub go_on : (more : List Token) (to : ℕ) → Reads text reading.place more to → Reads text 0 (before ++ more) to
   pub inside : reading.place ≤ length text
   pub stands : IsPlace reading.at
   pub known : (tokens : List Token) → AreTokens text tokens → IsTokenReading text reading given

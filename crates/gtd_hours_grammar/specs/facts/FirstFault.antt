@@ -7,7 +7,8 @@ use Rattle.gtd_hours_tokens.specs.declared.token.TokenKind.TheVariants as token
 use Rattle.gtd_hours_grammar.specs.declared.fault.FaultKind.{FaultKind}
 use Rattle.gtd_hours_grammar.specs.declared.fault.FaultKind.TheVariants as fault
 use Rattle.gtd_hours_grammar.specs.declared.fault.HoursFault.{HoursFault}
-use Rattle.gtd_hours_moves.specs.Terms.{Token, TokenKind, Piece, Stage}
+use Rattle.gtd_hours_moves.specs.Terms.{Token, TokenKind, Piece}
+use Rattle.gtd_hours_moves.specs.declared.stage.Stage.{Stage}
 use Rattle.gtd_hours_moves.specs.declared.stage.Stage.TheVariants as stage
 use Rattle.gtd_hours_moves.specs.Grammar.{AreHours, CanGoOn, Follow, IsDates, IsMonthDays, IsWeeks, IsYears, Listed, More}
 use Rattle.gtd_hours_moves.specs.Grammar.{in_full, so_far}

@@ -5,7 +5,7 @@ use Rattle.gtd_hours_tokens.specs.declared.token.TokenKind.{TokenKind}
 use Rattle.gtd_hours_moves.specs.declared.place.Move.{Move}
 use Rattle.gtd_hours_grammar.specs.Steps.{IsMove}
 use Rattle.gtd_hours_grammar.proofs.ReadLemmas.{fewer, stands_by}
-use Rattle.gtd_hours_grammar.proofs.ReadingLemmas.{fault_read, gives_piece, hours_read, inside, keeps_more, read_to}
+use Rattle.gtd_hours_grammar.proofs.ReadingLemmas.{fault_read, gives_piece, has_read, hours_read, inside, keeps_more, read_to}
 use Rattle.gtd_hours_grammar.proofs.SoundLemmas.{sound_all, sound_piece}
 use Rattle.gtd_hours_grammar.proofs.reading.next_part.Goals as goal
 
@@ -20,15 +20,17 @@ token_behind-requires-clause-inside c = inside c.args.text.now c.args.reading c.
 
 pub token_behind-requires-clause-read : goal.token_behind-requires-clause-read
 token_behind-requires-clause-read c =
-    (c.loop-next.invariant.same c.loop-next.invariant.some.0 c.loop-next.invariant.some.1).has_read
+    let k = c.loop-next.invariant in
+    has_read c.args.text.now c.loop-next.now k.some.0 (k.same k.some.0 k.some.1)
 
 pub end_or_fault-requires-clause-inside : goal.end_or_fault-requires-clause-inside
 end_or_fault-requires-clause-inside c = c.in_ok-next.ensures.inside
 
 pub end_or_fault-requires-clause-read : goal.end_or_fault-requires-clause-read
 end_or_fault-requires-clause-read c =
-    let is = c.loop-next.invariant.same c.loop-next.invariant.some.0 c.loop-next.invariant.some.1 in
-    read_to c.args.text.now c.loop-next.now.place c.in_ok-next.next is.has_read c.in_ok-next.ensures.next
+    let k = c.loop-next.invariant in
+    let read = has_read c.args.text.now c.loop-next.now k.some.0 (k.same k.some.0 k.some.1) in
+    read_to c.args.text.now c.loop-next.now.place c.in_ok-next.next read c.in_ok-next.ensures.next
 
 pub step_from-requires : goal.step_from-requires
 step_from-requires c = (c.loop-next.invariant.same c.loop-next.invariant.some.0 c.loop-next.invariant.some.1).stands
