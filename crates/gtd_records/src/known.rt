@@ -67,20 +67,20 @@ impl Model for KnownText {
     ghost invariant = { λ a. StandsFor a.text.items (domain_tree a.domain) × HasNoFault a.text.items };
 }
 
-// The bytes of a text, mixed into one number. Few other texts have the same.
-fn mixed(text: &[u8]) -> u32 {
-    let mut mixed = 0u32;
+// The hash of a text (that of FNV, from 0). Few other texts have the same.
+fn hash_of(text: &[u8]) -> u32 {
+    let mut hash = 0u32;
     for byte in text {
-        mixed = (mixed ^ u32::from(*byte)).wrapping_mul(16_777_619);
+        hash = (hash ^ u32::from(*byte)).wrapping_mul(16_777_619);
     }
-    mixed
+    hash
 }
 
-// The place of a text with these mixed bytes. Other texts may have the same place.
-fn place_of(mixed: u32) -> usize
+// The place of a text with this hash. Other texts may have the same place.
+fn place_of(hash: u32) -> usize
     ensures { result < 1024 }
 {
-    (mixed >> 22) as usize
+    (hash >> 22) as usize
 }
 
 // A copy of a text, with a copy of its domain.
@@ -101,9 +101,9 @@ fn known_text(alloc: Global, text: &[u8], domain: &Domain) -> Result<KnownText, 
 #[derive(Drop)]
 pub(crate) struct KnownTexts {
     places: Vec<Option<KnownText>>,
-    /// The mixed bytes of the latest text of each place that was read.
-    heard: Vec<u32>,
-    /// The mixed bytes of the text that was read last. Equal texts have the same.
+    /// The hash of the latest text of each place that was read.
+    latest_hashes: Vec<u32>,
+    /// The hash of the text that was read last. Equal texts have the same.
     pub(crate) latest: u32,
 }
 
@@ -112,30 +112,30 @@ impl KnownTexts {
     pub(crate) fn new(alloc: Global) -> KnownTexts {
         KnownTexts {
             places: Vec::new(alloc),
-            heard: Vec::new(alloc),
+            latest_hashes: Vec::new(alloc),
             latest: 0,
         }
     }
 
-    // Whether the latest text of the same place had the same mixed bytes. From now on, this one is the latest.
-    fn hear(&mut self, mixed: u32) -> Result<bool, AllocError> {
-        for _ in self.heard.len()..PLACES {
-            self.heard.push(0)?;
+    // Whether the latest text of the same place had the same hash. From now on, this one is the latest.
+    fn replace_latest_hash(&mut self, hash: u32) -> Result<bool, AllocError> {
+        for _ in self.latest_hashes.len()..PLACES {
+            self.latest_hashes.push(0)?;
         }
-        let Some(latest) = self.heard.get_mut(place_of(mixed)) else {
+        let Some(latest) = self.latest_hashes.get_mut(place_of(hash)) else {
             return Ok(false);
         };
-        let is_heard = *latest == mixed;
-        *latest = mixed;
-        Ok(is_heard)
+        let is_same = *latest == hash;
+        *latest = hash;
+        Ok(is_same)
     }
 
-    // A copy of the domain of a text with these mixed bytes, if the text is known.
-    fn find(&self, alloc: Global, text: &[u8], mixed: u32) -> Result<Option<Domain>, AllocError>
+    // A copy of the domain of a text with this hash, if the text is known.
+    fn find(&self, alloc: Global, text: &[u8], hash: u32) -> Result<Option<Domain>, AllocError>
         ensures { IfOk result (λ found. IfSome found
             (λ domain. StandsFor text.now (domain_tree domain) × HasNoFault text.now)) }
     {
-        let Some(Some(known)) = self.places.get(place_of(mixed)) else {
+        let Some(Some(known)) = self.places.get(place_of(hash)) else {
             return Ok(None);
         };
         if known.text.as_slice() != text {
@@ -145,26 +145,26 @@ impl KnownTexts {
         Ok(Some(domain))
     }
 
-    // Keeps a text with these mixed bytes at its place, if it was read before. A file that repeats no text would only pay
+    // Keeps a text with this hash at its place, if it was read before. A file that repeats no text would only pay
     // for the copies.
     fn keep(
         &mut self,
         alloc: Global,
         text: &[u8],
-        mixed: u32,
+        hash: u32,
         domain: &Domain,
     ) -> Result<(), AllocError>
         requires found { StandsFor text.now (domain_tree domain.now) }
         requires faultless { HasNoFault text.now }
     {
-        if !self.hear(mixed)? {
+        if !self.replace_latest_hash(hash)? {
             return Ok(());
         }
         for _ in self.places.len()..PLACES {
             self.places.push(None)?;
         }
         let known = known_text(alloc, text, domain)?;
-        if let Some(place) = self.places.get_mut(place_of(mixed)) {
+        if let Some(place) = self.places.get_mut(place_of(hash)) {
             *place = Some(known);
         }
         Ok(())
@@ -175,18 +175,18 @@ impl KnownTexts {
         ensures found { IfOk result (λ domain. StandsFor text.now (domain_tree domain) × HasNoFault text.now) }
         ensures fault { IfErr result (λ fault. (fault ≡ no_memory) ⊎ IsFault text.now fault) }
     {
-        let mixed = mixed(text);
-        self.latest = mixed;
+        let hash = hash_of(text);
+        self.latest = hash;
         if text.len() > LONGEST {
             return read_domain(alloc, text);
         }
-        match self.find(alloc, text, mixed) {
+        match self.find(alloc, text, hash) {
             Ok(Some(domain)) => return Ok(domain),
             Ok(None) => {}
             Err(_) => return Err(NO_MEMORY),
         }
         let domain = read_domain(alloc, text)?;
-        match self.keep(alloc, text, mixed, &domain) {
+        match self.keep(alloc, text, hash, &domain) {
             Ok(()) => Ok(domain),
             Err(_) => Err(NO_MEMORY),
         }

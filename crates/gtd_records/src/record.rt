@@ -27,8 +27,8 @@ pub struct Record {
     pub vehicles: Vehicles,
     /// When it closes them: at the seconds of a domain, or always.
     pub domain: Option<Domain>,
-    // The bytes of the domain's text, mixed into one number. Records with the same text have the same.
-    pub(crate) mixed: u32,
+    // The hash of the domain's text. Records with the same text have the same.
+    pub(crate) text_hash: u32,
 }
 
 impl Model for Record {
@@ -77,13 +77,15 @@ impl Record {
     }
 
     // Whether the record closes its element in a direction for a vehicle type, and has the same domain as another. Of most that
-    // differ, the mixed texts differ already. The same domain in another text counts as another.
+    // differ, the hashes of the texts differ already. The same domain in another text counts as another.
     #[inline(always)]
     pub(crate) fn closes_alike(&self, other: &Record, direction: Direction, vehicle: u8) -> bool
         ensures concerns { IsTrue result → Concerns direction vehicle self.now }
         ensures same { IsTrue result → self.now.domain ≡ other.now.domain }
     {
-        self.mixed == other.mixed && self.has_domain_of(other) && self.concerns(direction, vehicle)
+        self.text_hash == other.text_hash
+            && self.has_domain_of(other)
+            && self.concerns(direction, vehicle)
     }
 
     // Whether the record closes its element for a vehicle type in one direction alone, whatever the second.

@@ -133,7 +133,7 @@ fn read_row(
         closed,
         vehicles,
         domain,
-        mixed: known.latest,
+        text_hash: known.latest,
     })
 }
 

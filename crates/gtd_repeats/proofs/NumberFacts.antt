@@ -15,8 +15,9 @@ use Rattle.gtd_spans.specs.Normal.{Holds, IsNormalFor}
 use Rattle.gtd_spans.specs.facts.NormalFor.{normal-of}
 use Rattle.gtd_spans.specs.facts.OneList.{one-list}
 use Rattle.gtd_repeats.specs.Firsts.{AreFirsts, ShareNumbers}
-use Rattle.gtd_repeats.specs.Numbers.{AreMixed, AreNumbers, IsEarlyNumber, IsLateNumber, IsNumberOf, IsSumIn}
-use Rattle.gtd_repeats.specs.Numbers.{early_begin, late_begin, late_end, mixed, sum_of, total, weight, years_begin, years_end}
+use Rattle.gtd_repeats.specs.Numbers.{AreJointNumbers, AreNumbers, IsEarlyNumber, IsLateNumber, IsNumberOf, IsSumIn}
+use Rattle.gtd_repeats.specs.Numbers.{early_begin, joint_number, late_begin, late_end, sum_of, total, weight, years_begin}
+use Rattle.gtd_repeats.specs.Numbers.{years_end}
 use Rattle.gtd_repeats.specs.Sameness.{AreAlikeIn, HoldSame, row_at}
 use Rattle.gtd_repeats.specs.declared.alike.Kind.TheVariants as kind
 use Rattle.gtd_repeats.proofs.AlikeFacts.{likeness, of_text}
@@ -79,14 +80,14 @@ module _ (rows : List Restriction) (numbers : List ℕ) where
 
   -- the numbers of rows by their elements and the first rows with their seconds
   pub share_row : (firsts : List ℕ) → AreFirsts (AreAlikeIn rows kind.Seconds) (length rows) firsts
-      → AreMixed rows firsts numbers
+      → AreJointNumbers rows firsts numbers
       → ShareNumbers (AreAlikeIn rows kind.Row) numbers
-  share_row firsts are mix j k h =
+  share_row firsts are joint j k h =
       let first : get_or firsts j 0 ≡ get_or firsts k 0 =
       same_first (AreAlikeIn rows kind.Seconds) (likeness rows kind.Seconds) (length rows) firsts are j k h.0 h.1
       (h.0, h.1, h.2.seconds) in
-      mix.each j h.0 ∙ ap (λ (e : ℕ). mixed e (get_or firsts j 0)) h.2.element
-      ∙ ap (mixed (row_at rows k).element) first ∙ sym (mix.each k h.1)
+      joint.each j h.0 ∙ ap (λ (e : ℕ). joint_number e (get_or firsts j 0)) h.2.element
+      ∙ ap (joint_number (row_at rows k).element) first ∙ sym (joint.each k h.1)
 
 -- ---- the sum over the first intervals
 

@@ -66,10 +66,10 @@ pub record AreNumbers (rows : List Restriction) (numbers : List ℕ) : Type 0 wh
   pub each : (row : ℕ) → row < length rows → IsNumberOf (row_at rows row).domain (get_or numbers row 0)
 
 -- a number of a row, of its element and of the first row with the same seconds
-abbrev pub mixed : ℕ → ℕ → ℕ
-mixed element first = (element % 1_000_003) * 65_536 + first % 65_536
+abbrev pub joint_number : ℕ → ℕ → ℕ
+joint_number element first = (element % 1_000_003) * 65_536 + first % 65_536
 
 -- that of each row, if these are the first rows with the same seconds
-pub record AreMixed (rows : List Restriction) (firsts numbers : List ℕ) : Type 0 where
+pub record AreJointNumbers (rows : List Restriction) (firsts numbers : List ℕ) : Type 0 where
   pub many : length numbers ≡ length rows
-  pub each : (row : ℕ) → row < length rows → get_or numbers row 0 ≡ mixed (row_at rows row).element (get_or firsts row 0)
+  pub each : (row : ℕ) → row < length rows → get_or numbers row 0 ≡ joint_number (row_at rows row).element (get_or firsts row 0)

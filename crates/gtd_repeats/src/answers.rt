@@ -39,8 +39,8 @@ pub(crate) fn first_answers(alloc: Global) -> Result<Vec<Answer>, AllocError>
 fn place_of(row: usize, other: usize) -> usize {
     let first = (row % 65_536) as u32;
     let second = (other % 65_536) as u32;
-    let mixed = first.wrapping_mul(16_777_619) ^ second;
-    (mixed.wrapping_mul(2_654_435_769) >> 20) as usize
+    let hash = first.wrapping_mul(16_777_619) ^ second;
+    (hash.wrapping_mul(2_654_435_769) >> 20) as usize
 }
 
 // What a place says of two rows, if it says anything of them.

@@ -16,7 +16,7 @@ use crate::buckets::{Entry, entries_of};
 use crate::firsts::firsts_of;
 use crate::kin::{Grouped, kin_of, within_of};
 use crate::known::known_rows;
-use crate::numbers::{mixed_numbers, numbers_of};
+use crate::numbers::{joint_numbers, numbers_of};
 use crate::spans::spans_of;
 use gtd_records::Record;
 use std::alloc::{AllocError, Global};
@@ -69,7 +69,7 @@ fn sames_of(alloc: Global, rows: &[Record], meanings: &[usize]) -> Result<Vec<us
     requires meanings { AreFirsts (AreAlikeIn rows.now declared.Seconds) (length rows.now) meanings.now }
     ensures sames { IfOk result (λ sames. AreFirsts (AreAlikeIn rows.now declared.Row) (length rows.now) sames.items) }
 {
-    let numbers = mixed_numbers(alloc, rows, meanings)?;
+    let numbers = joint_numbers(alloc, rows, meanings)?;
     let own = themselves(alloc, rows)?;
     let by_row = Compared {
         rows,

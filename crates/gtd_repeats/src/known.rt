@@ -12,65 +12,65 @@ use std::alloc::{AllocError, Global};
 /// How many texts are remembered.
 const PLACES: usize = 4096;
 
-fn mixed_with(mixed: u32, value: u32) -> u32 {
-    (mixed ^ value).wrapping_mul(16_777_619)
+fn hash_with(hash: u32, value: u32) -> u32 {
+    (hash ^ value).wrapping_mul(16_777_619)
 }
 
-fn with_byte(mixed: u32, field: Option<u8>) -> u32 {
+fn with_byte(hash: u32, field: Option<u8>) -> u32 {
     match field {
-        Some(value) => mixed_with(mixed, u32::from(value)),
-        None => mixed_with(mixed, 255),
+        Some(value) => hash_with(hash, u32::from(value)),
+        None => hash_with(hash, 255),
     }
 }
 
-fn with_place(mixed: u32, place: Option<(u8, u8)>) -> u32 {
+fn with_place(hash: u32, place: Option<(u8, u8)>) -> u32 {
     match place {
-        Some((number, weekday)) => mixed_with(
-            mixed_with(mixed, u32::from(number)),
+        Some((number, weekday)) => hash_with(
+            hash_with(hash, u32::from(number)),
             u32::from(weekday),
         ),
-        None => mixed_with(mixed, 255),
+        None => hash_with(hash, 255),
     }
 }
 
-fn with_basic(mixed: u32, basic: &Basic) -> u32 {
+fn with_basic(hash: u32, basic: &Basic) -> u32 {
     let start = basic.start.parts();
     let year = match start.year {
         Some(year) => u32::from(year),
         None => 65_535,
     };
-    let date = with_byte(with_byte(mixed_with(mixed, year), start.month), start.day);
-    let week = mixed_with(with_byte(date, start.week), u32::from(start.weekdays));
+    let date = with_byte(with_byte(hash_with(hash, year), start.month), start.day);
+    let week = hash_with(with_byte(date, start.week), u32::from(start.weekdays));
     let places = with_place(with_place(week, start.nth), start.nth_back);
     let clock = with_byte(
         with_byte(with_byte(places, start.hour), start.minute),
         start.second,
     );
     let lasts = basic.duration.parts();
-    let days = mixed_with(mixed_with(clock, lasts.years), lasts.months);
-    let weeks = mixed_with(mixed_with(days, lasts.weeks), lasts.days);
-    mixed_with(
-        mixed_with(mixed_with(weeks, lasts.hours), lasts.minutes),
+    let days = hash_with(hash_with(clock, lasts.years), lasts.months);
+    let weeks = hash_with(hash_with(days, lasts.weeks), lasts.days);
+    hash_with(
+        hash_with(hash_with(weeks, lasts.hours), lasts.minutes),
         lasts.seconds,
     )
 }
 
-fn with_expr(mixed: u32, expr: &Expr) -> u32 {
+fn with_expr(hash: u32, expr: &Expr) -> u32 {
     match expr {
-        Expr::Leaf(basic) => with_basic(mixed, basic),
+        Expr::Leaf(basic) => with_basic(hash, basic),
         Expr::Join(op, left, right) => {
             let operator = match op {
                 Op::Union => 1,
                 Op::Meet => 2,
                 Op::Minus => 3,
             };
-            let first = with_expr(mixed_with(mixed, operator), left);
+            let first = with_expr(hash_with(hash, operator), left);
             with_expr(first, right)
         }
     }
 }
 
-// The parts of a domain, mixed into the number of a place. Few other domains have the same.
+// The place of a hash of the domain's parts. Few other domains have the same.
 fn place_of(domain: &Option<Domain>) -> usize {
     match domain {
         Some(domain) => (with_expr(1, domain.expr()) >> 20) as usize,

@@ -6,7 +6,8 @@ ghost use Rattle.gtd_core.specs.Whole.{whole};
 ghost use Rattle.gtd_eval.specs.Cursors.{cursor_list};
 ghost use Rattle.gtd_repeats.specs.Known.{AreKnown};
 ghost use Rattle.gtd_repeats.specs.Numbers as spec;
-ghost use Rattle.gtd_repeats.specs.Numbers.{AreMixed, AreNumbers, IsEarlyNumber, IsLateNumber, IsNumberOf, IsSumIn, mixed};
+ghost use Rattle.gtd_repeats.specs.Numbers.{AreJointNumbers, AreNumbers, IsEarlyNumber, IsLateNumber, IsNumberOf, IsSumIn};
+ghost use Rattle.gtd_repeats.specs.Numbers.{joint_number};
 ghost use Rattle.gtd_repeats.specs.Sameness.{row_at};
 
 use crate::seconds::days_between;
@@ -155,25 +156,25 @@ pub(crate) fn numbers_of(
 }
 
 // A number of a row, of its element and of the first row with the same seconds.
-fn mixed(element: u64, first: usize) -> u64
-    ensures value { result ≡ spec.mixed element first }
+fn joint_number(element: u64, first: usize) -> u64
+    ensures value { result ≡ spec.joint_number element first }
 {
     (element % PRIME) * 65_536 + first as u64 % 65_536
 }
 
 /// The number of each row, of its element and of the first row with the same seconds.
-pub(crate) fn mixed_numbers(
+pub(crate) fn joint_numbers(
     alloc: Global,
     rows: &[Record],
     firsts: &[usize],
 ) -> Result<Vec<u64>, AllocError>
     requires many { length firsts.now ≡ length rows.now }
-    ensures numbers { IfOk result (λ numbers. AreMixed rows.now firsts.now numbers.items) }
+    ensures numbers { IfOk result (λ numbers. AreJointNumbers rows.now firsts.now numbers.items) }
 {
     let mut numbers = Vec::new(alloc);
     for row in 0..rows.len() {
         let record = &rows[row];
-        numbers.push(mixed(record.element, firsts[row]))?;
+        numbers.push(joint_number(record.element, firsts[row]))?;
     }
     Ok(numbers)
 }
