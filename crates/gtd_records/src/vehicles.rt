@@ -69,10 +69,10 @@ impl Codes {
         }
     }
 
-    // Codes that are in ascending order, each once.
-    fn of_set(alloc: Global, codes: Vec<u8>) -> Result<Codes, AllocError>
-        requires { IsStrictlyIncreasing codes.items }
-        ensures { IfOk result (λ kept. kept ≡ codes.items) }
+    /// These codes. `AllocError` is answered only if memory was refused.
+    pub fn new(alloc: Global, codes: Vec<u8>) -> Result<Codes, AllocError>
+        requires ascending { IsStrictlyIncreasing codes.items }
+        ensures codes { IfOk result (λ kept. kept ≡ codes.items) }
     {
         if codes.len() == 1 {
             return Ok(Codes::single(codes[0]));
@@ -88,7 +88,7 @@ impl Codes {
     {
         codes.sort_unstable();
         codes.dedup();
-        Codes::of_set(alloc, codes)
+        Codes::new(alloc, codes)
     }
 
     /// The codes, in ascending order, each once.

@@ -5,12 +5,14 @@ use Rattle.gtd_records.specs.Columns.{IsSortedSet}
 use Rattle.gtd_records.proofs.SortedSets.{sorted_set}
 use Rattle.gtd_records.proofs.vehicles.Codes.ascending.Goals as goal
 
-pub of_set-requires : goal.of_set-requires
-of_set-requires c =
-    (sorted_set _ _ _ c.sort_unstable.ensures.permutation c.sort_unstable.ensures.sorted c.dedup.ensures.filtered).order
+pub new-requires : goal.new-requires
+new-requires c = record {
+  ascending = (sorted_set _ _ _ c.sort_unstable.ensures.permutation c.sort_unstable.ensures.sorted
+      c.dedup.ensures.filtered).order;
+}
 
 pub returns : goal.returns
 returns c =
     let set = sorted_set _ _ _ c.sort_unstable.ensures.permutation c.sort_unstable.ensures.sorted c.dedup.ensures.filtered in
-    IfOk-weaker c.of_set.result _ (λ (kept : List ℕ). IsSortedSet c.args.codes.items kept)
-    (λ kept same. subst (λ (codes : List ℕ). IsSortedSet c.args.codes.items codes) (sym same) set) c.of_set.ensures
+    IfOk-weaker c.new.result _ (λ (kept : List ℕ). IsSortedSet c.args.codes.items kept)
+    (λ kept same. subst (λ (codes : List ℕ). IsSortedSet c.args.codes.items codes) (sym same) set) c.new.ensures.codes
