@@ -1,6 +1,6 @@
 //! `gtdesk` prints, for people, which elements of a record file are closed at a moment and by which rows, lists the rows of
 //! a file that are at fault, says in plain English and in opening hours when a time domain holds, compares two time domains or
-//! record files, makes record files of files of opening hours, and draws pictures of a year.
+//! record files, makes record files of files of opening hours and of tags of ways, and draws pictures of a year.
 //!
 //! It writes its answer to standard output and ends with status 0, or 1 if it listed faults, or 4 if the two differ; faults of
 //! a file of opening hours go to standard error. Or it writes one line to standard error, with the text at fault below it, and
@@ -10,9 +10,10 @@
 
 use gtd_devices::{Host, HostOut, InputFault, read_whole};
 use gtdesk_tool::{
-    DiffPlan, Ending, Files, LineRefusal, Moment, OnePlan, Plan, Refusal, RefusalLines, RunRefusal,
-    Turn, WordsRefusal, ZonePlan, joined, moment_in_zone, no_zone, perform, perform_ask,
-    perform_diff, plan, refused_file, word_snippet, zone_path,
+    ConditionsPlan, DiffPlan, Ending, Files, LineRefusal, Moment, OnePlan, Plan, Refusal,
+    RefusalLines, RunRefusal, Turn, WordsRefusal, ZonePlan, joined, moment_in_zone, no_zone,
+    perform, perform_ask, perform_conditions, perform_diff, plan, refused_file, refused_table,
+    word_snippet, zone_path,
 };
 use std::fs::File;
 use std::io::{BufWriter, ErrorKind, Read};
@@ -198,11 +199,72 @@ fn run_both(rt: &HostRuntime, plan: &DiffPlan) -> ExitCode {
     finish(rt, answer, path, "")
 }
 
+// Carries the plan of `conditions` out, from two readers to standard output.
+fn print_conditions<R: Read + Drop, S: Read + Drop>(
+    rt: &HostRuntime,
+    plan: &ConditionsPlan,
+    tags: R,
+    means: S,
+) -> Result<Ending, RunRefusal> {
+    let mut tags = Host::new(tags);
+    let mut means = Host::new(means);
+    let made = BufWriter::with_capacity(rt.alloc(), OUTPUT_BUFFER, io::writer(rt));
+    let mut output = HostOut::new(made.map_err(|_| RunRefusal::Memory)?);
+    let mut errors = HostOut::new(rt.stderr());
+    perform_conditions(
+        rt.alloc(),
+        plan,
+        &mut tags,
+        &mut means,
+        &mut output,
+        &mut errors,
+    )
+}
+
+// The table of means.
+fn open_means(rt: &HostRuntime, path: &str) -> Result<File, RunRefusal> {
+    open(rt, path).map_err(|refusal| match refusal {
+        RunRefusal::Open => RunRefusal::MeansOpen,
+        _ => refusal,
+    })
+}
+
+// Carries the plan of `conditions` out, from the reader of the file of tags.
+fn run_conditions<R: Read + Drop>(
+    rt: &HostRuntime,
+    plan: &ConditionsPlan,
+    tags: R,
+) -> Result<Ending, RunRefusal> {
+    match plan.means.as_str() {
+        "-" => print_conditions(rt, plan, tags, rt.stdin()),
+        path => print_conditions(rt, plan, tags, open_means(rt, path)?),
+    }
+}
+
+// Carries the plan of `conditions` out, from the paths of its files.
+fn run_tags(rt: &HostRuntime, plan: &ConditionsPlan) -> Result<Ending, RunRefusal> {
+    match plan.tags.as_str() {
+        "-" => run_conditions(rt, plan, rt.stdin()),
+        path => run_conditions(rt, plan, open(rt, path)?),
+    }
+}
+
+// Carries the plan of `conditions` out, and tells why one of its files is refused.
+fn run_tags_and_means(rt: &HostRuntime, plan: &ConditionsPlan) -> ExitCode {
+    let answer = run_tags(rt, plan);
+    let path = match answer {
+        Err(refusal) => refused_table(plan, refusal),
+        Ok(_) => "",
+    };
+    finish(rt, answer, path, "")
+}
+
 fn run(rt: &HostRuntime, plan: Plan) -> ExitCode {
     match plan {
         Plan::One(plan) => run_one(rt, &plan),
         Plan::NowIn(plan) => run_zone(rt, plan),
         Plan::Diff(plan) => run_both(rt, &plan),
+        Plan::Conditions(plan) => run_tags_and_means(rt, &plan),
         Plan::Ask(path) => finish(rt, run_ask(rt, path.as_str()), path.as_str(), ""),
     }
 }

@@ -110,6 +110,7 @@ all_named form.SameRows rows = tt
 all_named form.Diff rows = (refl, (refl, (refl, (refl, tt))))
 all_named form.Ask rows = tt
 all_named form.Records rows = tt
+all_named form.Conditions rows = tt
 all_named form.Mend rows = tt
 all_named form.MendHours rows = day_names_named form.MendHours rows refl
 all_named form.Picture rows = (refl, (refl, (refl, (refl, tt))))

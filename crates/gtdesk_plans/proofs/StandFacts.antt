@@ -133,6 +133,7 @@ all_stand form.SameRows rows p h = tt
 all_stand form.Diff rows p h = let x = some_and (diff.plan_in p) (diff.IsPlan rows) h in diff_stand rows x.0 x.1
 all_stand form.Ask rows p h = tt
 all_stand form.Records rows p h = tt
+all_stand form.Conditions rows p h = tt
 all_stand form.Mend rows p h = tt
 all_stand form.MendHours rows p h =
     let x = some_and (mend.hours_plan_in p) (mend.IsHoursPlan rows) h in

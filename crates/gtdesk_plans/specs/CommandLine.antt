@@ -10,6 +10,7 @@ use Rattle.clap.specs.declared.parser.matches.ArgMatches.{ArgMatches}
 use Rattle.clap.specs.declared.error.kind.ErrorKind.TheVariants.{DisplayHelp, DisplayVersion, OutOfMemory}
 use Rattle.gtdesk_plans.specs.Arguments.{Text}
 use Rattle.gtdesk_plans.specs.Commands.Ask as ask
+use Rattle.gtdesk_plans.specs.Commands.Conditions as conditions
 use Rattle.gtdesk_plans.specs.Commands.Diff as diff
 use Rattle.gtdesk_plans.specs.Commands.Faults as faults
 use Rattle.gtdesk_plans.specs.Commands.Hours as hours
@@ -31,8 +32,8 @@ none_given = record {
 abbrev pub desk_app : App
 desk_app =
     fold (λ program command. with_subcommand program command.top) none_given
-    (now.app ∷ faults.app ∷ words.app ∷ hours.app ∷ same.app ∷ diff.app ∷ ask.app ∷ records.app ∷ mend.app
-    ∷ picture.app ∷ picture.domain_app ∷ [])
+    (now.app ∷ faults.app ∷ words.app ∷ hours.app ∷ same.app ∷ diff.app ∷ ask.app ∷ records.app
+    ∷ conditions.app ∷ mend.app ∷ picture.app ∷ picture.domain_app ∷ [])
 
 -- The words have no fault, and the matches are theirs.
 pub record HasWords (words : List Text) (m : ArgMatches) : Type 0 where

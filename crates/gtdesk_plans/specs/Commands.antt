@@ -2,6 +2,7 @@
 use Rattle.std.specs.Prelude.{List}
 use Rattle.clap.specs.Walk.{Row}
 use Rattle.gtdesk_plans.specs.Commands.Ask as ask
+use Rattle.gtdesk_plans.specs.Commands.Conditions as conditions
 use Rattle.gtdesk_plans.specs.Commands.Diff as diff
 use Rattle.gtdesk_plans.specs.Commands.Faults as faults
 use Rattle.gtdesk_plans.specs.Commands.Hours as hours
@@ -16,6 +17,7 @@ use Rattle.gtdesk_plans.specs.declared.forms.Form.{Form}
 use Rattle.gtdesk_plans.specs.declared.forms.Form.TheVariants as form
 use Rattle.gtdesk_plans.specs.declared.plans.Plan.{Plan}
 pub mod Ask
+pub mod Conditions
 pub mod Diff
 pub mod Faults
 pub mod Hours
@@ -40,6 +42,7 @@ words_of form.SameRows rows = same.file_words rows
 words_of form.Diff rows = diff.words rows
 words_of form.Ask rows = ask.words rows
 words_of form.Records rows = records.words rows
+words_of form.Conditions rows = conditions.words rows
 words_of form.Mend rows = mend.words rows
 words_of form.MendHours rows = mend.hours_words rows
 words_of form.Picture rows = picture.words rows
@@ -59,6 +62,7 @@ asks_of form.SameRows rows p = same.AsksFile rows p
 asks_of form.Diff rows p = diff.Asks rows p
 asks_of form.Ask rows p = ask.Asks rows p
 asks_of form.Records rows p = records.Asks rows p
+asks_of form.Conditions rows p = conditions.Asks rows p
 asks_of form.Mend rows p = mend.Asks rows p
 asks_of form.MendHours rows p = mend.AsksHours rows p
 asks_of form.Picture rows p = picture.Asks rows p

@@ -111,6 +111,8 @@ form_in found =
     else if bytes_eq found.0 (codes "diff") then Ok form.Diff
     else if bytes_eq found.0 (codes "ask") then Ok form.Ask
     else if bytes_eq found.0 (codes "records") then form_with form.Records (texts_of (codes "FILE") found.1)
+    else if bytes_eq found.0 (codes "conditions")
+    then form_with form.Conditions (text_of (codes "TAGS") found.1 ∷ text_of (codes "MEANS") found.1 ∷ [])
     else if bytes_eq found.0 (codes "mend") then mend_form found.1
     else if bytes_eq found.0 (codes "picture") then Ok form.Picture
     else if bytes_eq found.0 (codes "picture-domain") then Ok form.PictureDomain

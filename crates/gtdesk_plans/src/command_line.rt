@@ -9,7 +9,9 @@ ghost use Rattle.clap.specs.Simple.{App, with_subcommand};
 ghost use Rattle.gtdesk_plans.specs.Arguments.{Builds};
 ghost use Rattle.gtdesk_plans.specs.CommandLine.{HasWords, desk_app, none_given};
 
-use crate::commands::{ask, diff, faults, hours, mend, now, picture, records, same, words};
+use crate::commands::{
+    ask, conditions, diff, faults, hours, mend, now, picture, records, same, words,
+};
 use clap::{ArgMatches, Command};
 use std::alloc::{AllocError, Global};
 
@@ -51,6 +53,7 @@ fn gtdesk<'a>(alloc: Global) -> Result<Command<'a>, AllocError>
     let program = add_command(program, diff::command(alloc));
     let program = add_command(program, ask::command(alloc));
     let program = add_command(program, records::command(alloc));
+    let program = add_command(program, conditions::command(alloc));
     let program = add_command(program, mend::command(alloc));
     let program = add_command(program, picture::command(alloc));
     add_command(program, picture::domain_command(alloc))

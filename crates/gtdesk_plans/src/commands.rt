@@ -1,6 +1,7 @@
 //! The commands.
 
 pub(crate) mod ask;
+pub(crate) mod conditions;
 pub(crate) mod diff;
 pub(crate) mod faults;
 pub(crate) mod hours;
@@ -11,6 +12,7 @@ pub(crate) mod records;
 pub(crate) mod same;
 pub(crate) mod words;
 
+pub use conditions::ConditionsPlan;
 pub use diff::DiffPlan;
 pub use faults::FaultsPlan;
 pub use hours::HoursPlan;

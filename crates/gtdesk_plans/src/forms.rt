@@ -38,6 +38,8 @@ pub(crate) enum Form {
     Ask,
     /// `records`
     Records,
+    /// `conditions`
+    Conditions,
     /// `mend FILE`
     Mend,
     /// `mend hours TEXT`
@@ -282,6 +284,10 @@ pub(crate) fn form_of(name: &str, given: &ArgMatches<'_>) -> Result<Form, Misuse
         "diff" => Ok(Form::Diff),
         "ask" => Ok(Form::Ask),
         "records" => form_with(Form::Records, given, "FILE"),
+        "conditions" => form_of_files(
+            Form::Conditions,
+            &[text(given, "TAGS"), text(given, "MEANS")],
+        ),
         "mend" => mend_form(given),
         "picture" => Ok(Form::Picture),
         "picture-domain" => Ok(Form::PictureDomain),

@@ -15,8 +15,8 @@ mod plans;
 mod refused;
 
 pub use commands::{
-    DiffPlan, DomainPicturePlan, FaultsPlan, HoursPlan, MendHoursPlan, NowPlan, NowView,
-    PicturePlan, PictureSubject, SamePlan, WordsPlan, ZonePlan,
+    ConditionsPlan, DiffPlan, DomainPicturePlan, FaultsPlan, HoursPlan, MendHoursPlan, NowPlan,
+    NowView, PicturePlan, PictureSubject, SamePlan, WordsPlan, ZonePlan,
 };
 pub use planner::plan;
 pub use plans::{Files, OnePlan, Plan};

@@ -17,7 +17,9 @@ ghost use Rattle.gtdesk_words.specs.Readings.{AreStopped};
 ghost use Rattle.gtdesk_words.specs.declared.refusal.WordsRefusal.{WordsRefusal};
 
 use crate::command_line::parse;
-use crate::commands::{ask, diff, faults, hours, mend, now, picture, records, same, words};
+use crate::commands::{
+    ask, conditions, diff, faults, hours, mend, now, picture, records, same, words,
+};
 use crate::forms::{Form, Misuse, form_of};
 use crate::hints::meant_by;
 use crate::plans::{OnePlan, Plan};
@@ -117,6 +119,7 @@ fn plan_form(alloc: Global, form: Form, given: &ArgMatches<'_>) -> Result<Plan, 
         Form::Diff => diff::plan(alloc, given),
         Form::Ask => ask::plan(alloc, given),
         Form::Records => records::plan(alloc, given),
+        Form::Conditions => conditions::plan(alloc, given),
         Form::Mend => mend::plan(alloc, given),
         Form::MendHours => mend::plan_hours(alloc, given),
         Form::Picture => picture::plan(alloc, given),

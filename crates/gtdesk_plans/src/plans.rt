@@ -1,8 +1,8 @@
 //! What a command line asks for.
 
 use crate::commands::{
-    DiffPlan, DomainPicturePlan, FaultsPlan, HoursPlan, MendHoursPlan, NowPlan, PicturePlan,
-    SamePlan, WordsPlan, ZonePlan,
+    ConditionsPlan, DiffPlan, DomainPicturePlan, FaultsPlan, HoursPlan, MendHoursPlan, NowPlan,
+    PicturePlan, SamePlan, WordsPlan, ZonePlan,
 };
 use gtd_core::Domain;
 
@@ -15,6 +15,8 @@ pub enum Plan {
     NowIn(ZonePlan),
     /// To print what two record files say differently.
     Diff(DiffPlan),
+    /// To print the record file of a file of tags of ways.
+    Conditions(ConditionsPlan),
     /// To answer the questions on standard input about the record file of this path.
     Ask(String),
 }

@@ -174,6 +174,8 @@ of_domain text n (refusal.Records why) is = absurd is
 of_domain text n refusal.Open is = absurd is
 of_domain text n (refusal.Old why) is = absurd is
 of_domain text n refusal.OldOpen is = absurd is
+of_domain text n (refusal.Means why) is = absurd is
+of_domain text n refusal.MeansOpen is = absurd is
 of_domain text n (refusal.Questions why) is = absurd is
 of_domain text n refusal.Write is = absurd is
 

@@ -1,5 +1,6 @@
 pub mod Ask
 pub mod Comparing
+pub mod Conditions
 pub mod Diff
 pub mod Hours
 pub mod Lines

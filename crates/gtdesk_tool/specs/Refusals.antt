@@ -6,6 +6,7 @@ use Rattle.gtd_records.specs.declared.fault.RecordFault.{RecordFault}
 use Rattle.gtd_records.specs.declared.fault.RecordFault.TheVariants as records
 use Rattle.gtdesk_plans.specs.Arguments.{Text}
 use Rattle.gtdesk_words.specs.Statuses.{words_status}
+use Rattle.gtdesk_plans.specs.declared.commands.conditions.ConditionsPlan.{ConditionsPlan}
 use Rattle.gtdesk_plans.specs.declared.commands.diff.DiffPlan.{DiffPlan}
 use Rattle.gtdesk_tool.specs.declared.refusal.Refusal.{Refusal}
 use Rattle.gtdesk_tool.specs.declared.refusal.Refusal.TheVariants as refusal
@@ -35,6 +36,8 @@ run_status (run.Records why) = records_status why
 run_status run.Open = 3
 run_status (run.Old why) = records_status why
 run_status run.OldOpen = 3
+run_status (run.Means why) = records_status why
+run_status run.MeansOpen = 3
 run_status (run.Questions why) = questions_status why
 run_status run.Write = 3
 run_status run.Memory = 3
@@ -48,3 +51,9 @@ abbrev pub refused_file : RunRefusal → DiffPlan → Text
 refused_file (run.Old why) p = string_bytes p.old
 refused_file run.OldOpen p = string_bytes p.old
 refused_file other p = string_bytes p.new
+
+-- The path of the one of the files of `conditions` that a refusal is about: the table, if it is not opened or not read.
+abbrev pub refused_table : RunRefusal → ConditionsPlan → Text
+refused_table (run.Means why) p = string_bytes p.means
+refused_table run.MeansOpen p = string_bytes p.means
+refused_table other p = string_bytes p.tags

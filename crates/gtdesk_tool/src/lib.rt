@@ -1,11 +1,12 @@
 //! The commands of `gtdesk`.
 //!
 //! [`plan`] reads the words after the program's name, and [`perform`] carries out what they ask for, for one file after the
-//! other; or [`perform_diff`] if they ask for what two files say differently, or [`perform_ask`] if they ask for answers to
-//! questions.
+//! other; or [`perform_diff`] if they ask for what two files say differently, [`perform_conditions`] for the records of tags of
+//! ways, and [`perform_ask`] for answers to questions.
 #![tactic(auto)]
 
 mod ask;
+mod conditions;
 mod diff;
 mod domain_hours;
 mod ending;
@@ -24,16 +25,18 @@ mod shown;
 mod zone;
 
 pub use ask::perform_ask;
+pub use conditions::perform_conditions;
 pub use diff::perform_diff;
 pub use ending::{Ending, joined};
 pub use gtd_zones::zone_path;
 pub use gtdesk_plans::{
-    DiffPlan, DomainPicturePlan, FaultsPlan, Files, HoursPlan, LineRefusal, MendHoursPlan, NowPlan,
-    NowView, OnePlan, PicturePlan, PictureSubject, Plan, SamePlan, ZonePlan, plan,
+    ConditionsPlan, DiffPlan, DomainPicturePlan, FaultsPlan, Files, HoursPlan, LineRefusal,
+    MendHoursPlan, NowPlan, NowView, OnePlan, PicturePlan, PictureSubject, Plan, SamePlan,
+    ZonePlan, plan,
 };
 pub use gtdesk_words::{Moment, NoDomain, Reason, WordFault, WordName, WordsRefusal};
 pub use line::RefusalLines;
 pub use performer::{Turn, perform};
-pub use refusal::{Refusal, RunRefusal, refused_file};
+pub use refusal::{Refusal, RunRefusal, refused_file, refused_table};
 pub use shown::word_snippet;
 pub use zone::{moment_in_zone, no_zone};

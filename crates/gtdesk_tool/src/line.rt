@@ -194,6 +194,8 @@ impl Display for RunLine<'_> {
             RunRefusal::Open => write!(f, "{file}: cannot be opened"),
             RunRefusal::Old(fault) => write!(f, "{file}: {}", FaultText(fault)),
             RunRefusal::OldOpen => write!(f, "{file}: cannot be opened"),
+            RunRefusal::Means(fault) => write!(f, "{file}: {}", FaultText(fault)),
+            RunRefusal::MeansOpen => write!(f, "{file}: cannot be opened"),
             RunRefusal::Questions(fault) => write!(f, "standard input: {}", QuestionText(fault)),
             RunRefusal::Write => write!(f, "standard output: cannot be written"),
             RunRefusal::Memory => write!(f, "memory: refused by the system"),

@@ -1,11 +1,12 @@
 //! Why a command line is not carried out.
 
 ghost use Rattle.std.specs.Prelude.{◌≡◌};
-ghost use Rattle.gtdesk_tool.specs.Refusals.{questions_status, records_status, refused_file, run_status, status_of};
+ghost use Rattle.gtdesk_tool.specs.Refusals.{questions_status, records_status, refused_file, refused_table, run_status};
+ghost use Rattle.gtdesk_tool.specs.Refusals.{status_of};
 
 use gtd_ask::QuestionFault;
 use gtd_records::RecordFault;
-use gtdesk_plans::DiffPlan;
+use gtdesk_plans::{ConditionsPlan, DiffPlan};
 use gtdesk_words::{NoDomain, WordFault, WordsRefusal};
 
 /// Why a plan is not carried out.
@@ -29,6 +30,10 @@ pub enum RunRefusal {
     Old(RecordFault),
     /// The old of two record files is not opened.
     OldOpen,
+    /// The table of means is not read. This is why its input failed: `ReadFault` or `Endless`.
+    Means(RecordFault),
+    /// The table of means is not opened.
+    MeansOpen,
     /// The questions on standard input are not read. This is their first fault, or why the input failed, and never `NoMemory`.
     Questions(QuestionFault),
     /// A write to standard output failed.
@@ -52,6 +57,8 @@ impl RunRefusal {
             RunRefusal::Open => 3,
             RunRefusal::Old(fault) => records_status(*fault),
             RunRefusal::OldOpen => 3,
+            RunRefusal::Means(fault) => records_status(*fault),
+            RunRefusal::MeansOpen => 3,
             RunRefusal::Questions(fault) => questions_status(*fault),
             RunRefusal::Write => 3,
             RunRefusal::Memory => 3,
@@ -109,5 +116,17 @@ pub fn refused_file(plan: &DiffPlan, refusal: RunRefusal) -> &str
         RunRefusal::Old(_) => plan.old.as_str(),
         RunRefusal::OldOpen => plan.old.as_str(),
         _ => plan.new.as_str(),
+    }
+}
+
+/// The path of the one of the files of `conditions` that a refusal is about: that of the table of means if it is not opened or
+/// not read, and otherwise that of the file of tags.
+pub fn refused_table(plan: &ConditionsPlan, refusal: RunRefusal) -> &str
+    ensures value { result.now ≡ refused_table refusal plan.now }
+{
+    match refusal {
+        RunRefusal::Means(_) => plan.means.as_str(),
+        RunRefusal::MeansOpen => plan.means.as_str(),
+        _ => plan.tags.as_str(),
     }
 }

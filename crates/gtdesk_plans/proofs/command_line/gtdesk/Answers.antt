@@ -12,6 +12,7 @@ returns c =
     let diff = c.add_command-program-6.ensures _ _ same c.command-6.ensures refl in
     let ask = c.add_command-program-7.ensures _ _ diff c.command-7.ensures refl in
     let records = c.add_command-program-8.ensures _ _ ask c.command-8.ensures refl in
-    let mend = c.add_command-program-9.ensures _ _ records c.command-9.ensures refl in
-    let picture = c.add_command-program-10.ensures _ _ mend c.command-10.ensures refl in
+    let conditions = c.add_command-program-9.ensures _ _ records c.command-9.ensures refl in
+    let mend = c.add_command-program-10.ensures _ _ conditions c.command-10.ensures refl in
+    let picture = c.add_command-program-11.ensures _ _ mend c.command-11.ensures refl in
     c.add_command.ensures _ _ picture c.domain_command.ensures refl

@@ -1,0 +1,44 @@
+-- What the command `conditions` prints, and how it ends.
+use Rattle.std.specs.Prelude.{◌≡◌, ℕ, ◌+◌, Bool, List, Option, Result, Ok, Err, IsErrOf, IsTrue, OnOk, string_bytes}
+use Rattle.gtd_conditional_file.specs.Run.{HasConverted}
+use Rattle.gtd_conditional_file.specs.declared.unconverted.Unconverted.{Unconverted}
+use Rattle.gtd_conditional_file.specs.declared.unconverted.Unconverted.TheVariants as run
+use Rattle.gtd_records.specs.declared.fault.RecordFault.TheVariants as records
+use Rattle.gtdesk_plans.specs.declared.commands.conditions.ConditionsPlan.{ConditionsPlan}
+use Rattle.gtdesk_tool.specs.Telling.{IsUntold, Telling, Told}
+use Rattle.gtdesk_tool.specs.declared.ending.Ending.{Ending}
+use Rattle.gtdesk_tool.specs.declared.ending.Ending.TheVariants as ending
+use Rattle.gtdesk_tool.specs.declared.refusal.RunRefusal.{RunRefusal}
+use Rattle.gtdesk_tool.specs.declared.refusal.RunRefusal.TheVariants as refusal
+
+-- The answer of `conditions`, from that of its run.
+abbrev pub conditions_outcome : Result ℕ Unconverted → Result Ending RunRefusal
+conditions_outcome (Ok lines) = Ok ending.Done
+conditions_outcome (Err (run.Faults list)) = Ok ending.FaultsListed
+conditions_outcome (Err run.MeansReadFault) = Err (refusal.Means records.ReadFault)
+conditions_outcome (Err run.MeansEndless) = Err (refusal.Means records.Endless)
+conditions_outcome (Err run.TagsReadFault) = Err (refusal.Records records.ReadFault)
+conditions_outcome (Err run.TagsEndless) = Err (refusal.Records records.Endless)
+conditions_outcome (Err (run.WriteFault written)) = Err refusal.Write
+conditions_outcome (Err (run.NoMemory written)) = Err refusal.Memory
+
+-- The output for errors took the list of faults, if the answer of the run is one.
+abbrev pub IsListTold : Telling → Result ℕ Unconverted → Type 0
+IsListTold errors (Err (run.Faults list)) = Told errors (string_bytes list)
+IsListTold errors other = IsUntold errors
+
+-- The run of `conditions` had an answer, and all that the run promises for this answer holds.
+pub record RanConditions (plan : ConditionsPlan) (tags means before after : Option (List ℕ))
+    (tags_silent means_silent ended : Bool) (errors : Telling) (result : Result Ending RunRefusal) : Type 0 where
+  pub answer : Result ℕ Unconverted
+  pub outcome : result ≡ conditions_outcome answer
+  pub converted : HasConverted (string_bytes plan.tags) (string_bytes plan.means) tags means before after answer
+  pub told : IsListTold errors answer
+  pub whole : OnOk answer (IsTrue ended)
+  pub tags_endless : IsErrOf answer run.TagsEndless → IsTrue tags_silent
+  pub means_endless : IsErrOf answer run.MeansEndless → IsTrue means_silent
+
+-- one more failure of the table's input exactly if the refusal is that it failed
+abbrev pub failures_after_means : Result Ending RunRefusal → ℕ → ℕ
+failures_after_means (Err (refusal.Means records.ReadFault)) count = count + 1
+failures_after_means result count = count
