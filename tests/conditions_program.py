@@ -1,0 +1,155 @@
+#!/usr/bin/env python3
+"""`gtdesk conditions` against the plain model of tests/conditional_model.py.
+
+First come the worked rows and files of conditional/ and its tables of means at fault; then random files of tags, of which some
+rows are damaged. The record file is that of the model, byte for byte; or each fault is listed with its row, line and place, and
+none is missing. The program reads hours as they are strictly written, so here the model does, too. Run it after `rt ci`, which
+builds the program.
+
+Usage: tests/conditions_program.py [COUNT [SEED]]
+"""
+import csv
+import io
+import os
+import random
+import re
+import subprocess
+import sys
+import tempfile
+
+import conditional_model
+import hours_model
+from checks import Checks
+
+HERE = os.path.dirname(os.path.abspath(__file__))
+PROGRAM = os.environ.get("GTDESK", os.path.join(HERE, "..", "crates", "gtdesk", "out", "gtdesk"))
+PLAIN = conditional_model.Options(None, False)
+# What damages a value, a key or an element.
+BYTES = "()@;,:\"0x><= \u00e9"
+
+
+def read_hours(text, place, _options, _warnings):
+    """Hours as a term, if they are strictly written."""
+    try:
+        rules = hours_model.read(text.encode("latin-1"))
+    except hours_model.Fault as fault:
+        raise conditional_model.Fault(f"Hours {fault.args[0]}", place + fault.args[1]) from None
+    return conditional_model.Term(None, rules, [], text)
+
+
+conditional_model.read_hours = read_hours
+
+
+def run(tags, means, room):
+    """Status, output and lines of faults for the bytes of both files."""
+    for name, data in (("tags.csv", tags), ("means.csv", means)):
+        with open(os.path.join(room, name), "wb") as file:
+            file.write(data)
+    done = subprocess.run([PROGRAM, "conditions", "tags.csv", "means.csv"], cwd=room, capture_output=True, check=False)
+    return done.returncode, done.stdout.decode(), done.stderr.decode("latin-1").splitlines()
+
+
+def heads(lines, name):
+    """The first lines of faults of a file: the line and what is said. A shown line of a file has spaces before it."""
+    pattern = re.compile(rf"{re.escape(name)}:([0-9]+): (.*)")
+    return [found.groups() for found in map(pattern.fullmatch, lines) if found]
+
+
+def numbered(faults):
+    """The same of faults of the model, in a file whose rows have one line each, with no empty lines between them."""
+    lines = []
+    for fault in faults:
+        row = re.match(r"row ([0-9]+)", fault)
+        lines.append((str(int(row[1]) + 1) if row else "1", fault))
+    return lines
+
+
+def compare(check, data, means, room):
+    """Compares the program with the model on the bytes of a file of tags."""
+    table, bytes_of_means = means
+    expected, _, faults = conditional_model.put(data, table, PLAIN)
+    status, output, errors = run(data, bytes_of_means, room)
+    told = heads(errors, "tags.csv")
+    if faults:
+        same_lines = b"\n\n" not in data and not re.search(rb'"[^",]*\n', data)
+        right = told == numbered(faults) if same_lines else [what for _, what in told] == faults
+        check(status == 1 and output == "" and right, f"{data}: {status} {told}, not {faults}")
+    else:
+        wanted = "".join(line + "\n" for line in expected)
+        check(status == 0 and errors == [] and output == wanted, f"{data}: {status} {errors} {output!r}, not {wanted!r}")
+
+
+def written(rows):
+    """Rows as the bytes of a file."""
+    text = io.StringIO()
+    csv.writer(text, lineterminator="\n").writerows(rows)
+    return text.getvalue().encode("latin-1")
+
+
+def worked(check, means, room):
+    """The worked rows and files, but for those that need an option of the table of holidays."""
+    with open(f"{HERE}/conditional/rows.csv", newline="") as source:
+        for row in csv.DictReader(source):
+            if not row["options"]:
+                tags = [tag.encode().decode("latin-1").split("=", 1) for tag in row["tags"].split(" | ")]
+                compare(check, written([["element", "key", "value"], *([7, *tag] for tag in tags)]), means, room)
+    with open(f"{HERE}/conditional/files.csv", newline="") as source:
+        for row in csv.DictReader(source):
+            compare(check, row["tags"].replace("|", "\n").encode(), means, room)
+
+
+def faulty_means(check, room):
+    """Tables of means that are at fault stop before the tags are read."""
+    with open(f"{HERE}/conditional/means_faults.csv", newline="") as source:
+        for row in csv.DictReader(source):
+            faults = [fault for fault in row["faults"].split("; ") if fault]
+            status, output, errors = run(b"element,key\n", row["bytes"].encode(), room)
+            if faults:
+                found = heads(errors, "means.csv")
+                check(status == 1 and output == "" and found == numbered(faults) and not heads(errors, "tags.csv"),
+                      f"{row['bytes']!r}: {status} {found}, not {faults}")
+            else:
+                check(status == 1 and heads(errors, "tags.csv") == [("1", "Header")], f"{row['bytes']!r}: {errors}")
+
+
+def damaged(chance, text):
+    """A field with a byte left out, put in or changed."""
+    at = chance.randrange(len(text) + 1)
+    return text[:at] + chance.choice(["", chance.choice(BYTES)]) + text[at + chance.randrange(2):]
+
+
+def drawn(chance, table):
+    """The rows of a random file of tags: of a few elements, in any order."""
+    rows = []
+    for element in chance.sample(range(1, 40), chance.randint(1, 5)):
+        rows += [[f"{element:0{chance.randint(1, 10)}}", key, value] for key, value in conditional_model.drawn(chance, table)]
+    if chance.random() < 0.5:
+        chance.shuffle(rows)
+    if chance.random() < 0.5:
+        for _ in range(chance.randint(1, 3)):
+            row = chance.choice(rows)
+            column = chance.choice((0, 1, 2, 2, 2, 2))
+            if column < len(row):
+                row[column] = damaged(chance, row[column].encode().decode("latin-1"))
+            if chance.random() < 0.1:
+                row.pop()
+    return [["element", "key", "value"], *(row for row in rows if row not in ([], [""]))]
+
+
+def main():
+    count, seed = int(sys.argv[1]) if sys.argv[1:] else 200, int(sys.argv[2]) if sys.argv[2:] else 1
+    chance = random.Random(seed)
+    check = Checks("conditions_program")
+    with open(f"{HERE}/conditional/means.csv", newline="") as source:
+        text = source.read()
+    table = conditional_model.read_means(list(csv.reader(io.StringIO(text)))[1:])
+    with tempfile.TemporaryDirectory() as room:
+        worked(check, (table, text.encode()), room)
+        faulty_means(check, room)
+        for _ in range(count):
+            compare(check, written(drawn(chance, table)), (table, text.encode()), room)
+    return check.end()
+
+
+if __name__ == "__main__":
+    sys.exit(main())
