@@ -1,4 +1,4 @@
-"""Ways of an OpenStreetMap extract, as tables of the tags that restrict them.
+"""Ways of an OpenStreetMap extract, as tables of the tags that restrict them, and as record files.
 
 An extract is read once, from its first byte to its last, and needs the same memory however large it is. Each way that has a tag
 of access becomes an element, and two kinds of tables are written:
@@ -10,11 +10,19 @@ of access becomes an element, and two kinds of tables are written:
     A row for each element, with the header ``element,way,first_node,last_node``: from which way it comes, and between which
     nodes it lies. Its positive direction is that of the way, from the first node to the last.
 
+With ``records=True`` two more kinds are written, by the program ``gtdesk``:
+
+``records-00000.csv``, ``records-00001.csv``...
+    Record files of version 2, each within the limits of one, whose rows close the elements when their tags do.
+``left_out.csv``
+    A row for each tag that is at fault, with the header ``element,key,value,fault``. Its element is left out of the records
+    whole, since a part of what its tags say could be taken for all of it.
+
 ::
 
     from gtd import osm
 
-    osm.extract("town.osm.pbf", "means.csv", "out")
+    osm.extract("town.osm.pbf", "means.csv", "out", records=True)
 
 **Which tags** matter, a file of means says: a comma-separated file with the header ``kind,name,means``. With the name ``hgv`` of
 kind ``mode`` these keys matter: ``hgv``, ``hgv:forward``, ``hgv:backward``, and each of them with ``:conditional`` behind it. Of
@@ -39,6 +47,7 @@ from typing import Union
 
 from gtd._program import MOST_ROWS
 from gtd._staging import Staging
+from gtd.osm._conversion import convert
 from gtd.osm._means import read_names
 from gtd.osm._reading import read
 from gtd.osm._tables import LAST_ELEMENT, Tables
@@ -56,9 +65,10 @@ def extract(
     *,
     first: int = 1,
     rows_per_table: int = MOST_ROWS,
+    records: bool = False,
     show_progress: bool = False,
 ) -> Done:
-    """Write the tags of an extract's ways that restrict them, and from which ways they come.
+    """Write the tags of an extract's ways that restrict them, and from which ways they come; and the records of these tags.
 
     Parameters
     ----------
@@ -66,13 +76,15 @@ def extract(
         The extract, in a format that its name tells and pyosmium reads: ``.osm.pbf``, ``.osm``, ``.osm.gz``, ``.osm.bz2``...
         Each way must come once, in the order that ``osmium sort`` makes, as in all published extracts.
     means : str or os.PathLike
-        The file of means. Only its names of kind ``mode`` and ``ignore`` are read.
+        The file of means. Without ``records`` only its names of kind ``mode`` and ``ignore`` are read.
     out : str or os.PathLike
         The folder of the tables. It must not exist yet, or be an empty folder.
     first : int
         The number of the first element; the others follow in the order of the extract.
     rows_per_table : int
         1 to 65,536; an element with more tags has a table of its own.
+    records : bool
+        Write record files, too.
     show_progress : bool
         Draw a progress bar on standard error.
 
@@ -85,12 +97,15 @@ def extract(
     Fault
         Of the means ``'TooLarge'``, ``'Header'`` or ``'FieldCount'``. Of the extract ``'Extract'`` if it cannot be read as one,
         ``'Repeated'`` or ``'Order'`` if a way comes again or too late, ``'TooManyRows'`` or ``'TooLarge'`` if the tags of one
-        way do not fit into a table, and ``'Element'`` after the element 9,999,999,999. Nothing is kept.
+        way do not fit into a table, and ``'Element'`` after the element 9,999,999,999. With ``records`` any fault of the means.
+        Nothing is kept.
     OSError
         A file cannot be opened or read; or the output exists already, is being written by another run, or cannot be written.
         Nothing is kept.
     ImportError
         There is no pyosmium.
+    ProgramNotFound
+        With ``records``: there is no program ``gtdesk``.
 
     Warns
     -----
@@ -107,5 +122,8 @@ def extract(
             ways = Ways(os.fspath(path), names, tables)
             read(os.fspath(path), ways, show_progress)
         done = ways.done(tables)
+        if records:
+            made = convert(staging.parts, done.parts, os.fspath(means))
+            done = done._replace(records=made.files, rows=made.rows, at_fault=made.left_out)
         staging.keep([], [], False)
     return done

@@ -1,4 +1,4 @@
-"""The command: ``python3 -m gtd.osm EXTRACT --means MEANS.csv --out DIR [--first N]``."""
+"""The command: ``python3 -m gtd.osm EXTRACT --means MEANS.csv --out DIR [--records] [--first N]``."""
 
 from __future__ import annotations
 
@@ -21,7 +21,7 @@ def main(words: Optional[List[str]] = None) -> int:
 
 def _done(given: argparse.Namespace) -> int:
     show = not given.quiet and sys.stderr.isatty()
-    done = osm.extract(given.extract, given.means, given.out, first=given.first, show_progress=show)
+    done = osm.extract(given.extract, given.means, given.out, first=given.first, records=given.records, show_progress=show)
     if not given.quiet:
         said = f"{done.ways:,} ways, {done.elements:,} elements, {done.tags:,} tags, {len(done.parts):,} tables of tags"
         left_out = ", ".join(f"{count:,} {reason}" for reason, count in done.left_out.items())
@@ -29,7 +29,16 @@ def _done(given: argparse.Namespace) -> int:
         if done.unknown:
             some = [f"{key} ({count:,})" for key, count in done.unknown.items()]
             print(f"no name of the means: {', '.join(some[:_SHOWN])}{', ...' * (len(some) > _SHOWN)}", file=sys.stderr)
+        if given.records:
+            print(_told(done), file=sys.stderr)
     return 0
+
+
+def _told(done: osm.Done) -> str:
+    """What the record files have."""
+    left_out = ", ".join(f"{count:,} {kind}" for kind, count in done.at_fault.items())
+    said = f"{done.rows:,} rows in {len(done.records):,} record files"
+    return f"{said}\nelements left out of them, by fault: {left_out}" if left_out else said
 
 
 def _parser() -> argparse.ArgumentParser:
@@ -39,6 +48,7 @@ def _parser() -> argparse.ArgumentParser:
     parser.add_argument("extract", metavar="EXTRACT", help="an extract, .osm.pbf or .osm")
     parser.add_argument("--means", required=True, metavar="MEANS.csv", help="what names stand for: kind,name,means")
     parser.add_argument("--out", required=True, metavar="DIR", help="a new folder for tags-00000.csv... and elements.csv")
+    parser.add_argument("--records", action="store_true", help="also record files, records-00000.csv..., and left_out.csv")
     parser.add_argument("--first", type=_element, default=1, metavar="N", help="the number of the first element; else 1")
     parser.add_argument("--quiet", action="store_true", help="no progress bar, and nothing said of success")
     return parser

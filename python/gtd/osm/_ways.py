@@ -29,6 +29,13 @@ class Done(NamedTuple):
     unknown: Dict[str, int]
     """Keys with conditions that are kept although the means have no name of theirs, and how many tags have each: the most
     frequent first, of the first 1,000 such keys."""
+    records: List[str] = []
+    """The names of the record files, in order."""
+    rows: int = 0
+    """How many rows these have."""
+    at_fault: Dict[str, int] = {}
+    """How many elements were left out of the record files, by the kind of the first fault of their tags, the most frequent
+    first."""
 
 
 class Ways:

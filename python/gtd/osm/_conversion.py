@@ -1,0 +1,171 @@
+"""From tables of tags to record files, by ``gtdesk conditions``."""
+
+from __future__ import annotations
+
+import csv
+import io
+import os
+import re
+import subprocess
+from collections import Counter
+from pathlib import Path
+from typing import BinaryIO, Dict, List, NamedTuple, Optional, Sequence, Tuple
+
+from gtd._fault import Fault
+from gtd._program import LARGEST_FILE, MOST_ROWS, program
+
+_RECORDS = b"element,direction,vehicles,domain\n"
+_LEFT_OUT = b"element,key,value,fault\n"
+_HEADER = "element,key,value\n"
+_LISTED = re.compile(r"-:\d+: row (?P<row>\d+): (?P<fault>(?P<kind>\w+(?: [A-Z]\w+)?)(?: at \d+)?)")
+_MEANS = re.compile(r":(?P<line>\d+): (?:row (?P<row>\d+): )?(?P<kind>\w+)")
+
+
+class Converted(NamedTuple):
+    """The record files of tables of tags."""
+
+    files: List[str]
+    """The names of the record files, in order."""
+    rows: int
+    """How many rows they have."""
+    left_out: Dict[str, int]
+    """How many elements were left out, by the kind of the first fault of their tags."""
+
+
+def convert(folder: Path, parts: Sequence[str], means: str) -> Converted:
+    """Write the record files ``records-00000.csv``... of tables of tags in a folder, and ``left_out.csv``.
+
+    An element of which a tag is at fault is left out whole: a part of what its tags say could be taken for all of it.
+
+    Raises
+    ------
+    Fault
+        The first fault of the table of means; or the rows of one element do not fit into a record file.
+    OSError, MemoryError, RuntimeError
+        ``gtdesk`` is not found or fails, or a file cannot be written.
+    """
+    kinds: Counter[str] = Counter()
+    with _Records(folder) as records, open(folder / "left_out.csv", "xb") as left_out:
+        left_out.write(_LEFT_OUT)
+        for part in parts:
+            with open(folder / part, newline="", encoding="utf-8") as file:
+                rows = list(csv.reader(file))[1:]
+            found = _faults(*_run(_table(rows), means), means)
+            at_fault = {rows[row - 1][0] for row, _, _ in found}
+            kinds.update(_first_kinds(rows, found).values())
+            left_out.write("".join(_line([*rows[row - 1], fault]) for row, fault, _ in found).encode())
+            sound = [row for row in rows if row[0] not in at_fault] if at_fault else rows
+            records.add(_printed(sound, means))
+        done = records.files, records.rows
+    return Converted(*done, dict(kinds.most_common()))
+
+
+def _first_kinds(rows: Sequence[Sequence[str]], found: Sequence[Tuple[int, str, str]]) -> Dict[str, str]:
+    """For each element that is at fault the kind of its first fault."""
+    kinds: Dict[str, str] = {}
+    for row, _, kind in found:
+        kinds.setdefault(rows[row - 1][0], kind)
+    return kinds
+
+
+def _run(tags: bytes, means: str) -> Tuple[int, bytes, str]:
+    """The status of ``gtdesk conditions``, what it printed, and what it said."""
+    path = program("gtdesk")
+    done = subprocess.run([path, "conditions", "--", "-", os.path.abspath(means)], input=tags, capture_output=True)
+    return done.returncode, done.stdout, done.stderr.decode("utf-8", "replace")
+
+
+def _faults(status: int, _: bytes, said: str, means: str) -> List[Tuple[int, str, str]]:
+    """The row, the fault and its kind for each row that is at fault."""
+    if status == 0:
+        return []
+    lines = said.splitlines()
+    found = [listed for listed in map(_LISTED.fullmatch, lines) if listed]
+    if status == 1 and found:
+        return [(int(one["row"]), one["fault"], one["kind"]) for one in found]
+    named = _MEANS.search(lines[0]) if status == 1 and lines else None
+    if named:
+        row = int(named["row"]) if named["row"] else None
+        raise Fault(named["kind"], file=means, line=int(named["line"]), row=row)
+    raise RuntimeError(f"gtdesk conditions ended with status {status}: {said.strip() or 'it said nothing'}")
+
+
+def _printed(rows: Sequence[Sequence[str]], means: str) -> bytes:
+    """The record file of tags none of which is at fault."""
+    status, printed, said = _run(_table(rows), means)
+    if status != 0:
+        raise RuntimeError(f"gtdesk conditions ended with status {status}: {said.strip() or 'it said nothing'}")
+    return printed
+
+
+def _table(rows: Sequence[Sequence[str]]) -> bytes:
+    """Rows of tags as a file."""
+    return (_HEADER + "".join(map(_line, rows))).encode()
+
+
+def _line(fields: Sequence[str]) -> str:
+    """The line of a row."""
+    text = io.StringIO()
+    csv.writer(text, lineterminator="\n").writerow(fields)
+    return text.getvalue()
+
+
+class _Records:
+    """Record files, each within the limits of one. The rows of an element are all in one file."""
+
+    def __init__(self, folder: Path) -> None:
+        self.files: List[str] = []
+        self.rows = 0
+        self._folder = folder
+        self._open: Optional[BinaryIO] = None
+        self._rows_of_file, self._size = 0, 0
+
+    def add(self, printed: bytes) -> None:
+        """Add the rows of a record file, element by element.
+
+        Raises
+        ------
+        Fault
+            Those of one element do not fit into a file.
+        """
+        element: Optional[bytes] = None
+        lines: List[bytes] = []
+        for line in printed.splitlines(keepends=True)[1:]:
+            of = line.partition(b",")[0]
+            if of != element:
+                self._add_element(lines)
+                element, lines = of, []
+            lines.append(line)
+        self._add_element(lines)
+
+    def _add_element(self, lines: Sequence[bytes]) -> None:
+        size = sum(map(len, lines))
+        if len(lines) > MOST_ROWS or len(_RECORDS) + size > LARGEST_FILE:
+            element = lines[0].partition(b",")[0].decode()
+            raise Fault("TooManyRows", note=f"the rows of element {element} do not fit into a record file")
+        if lines and (self._open is None or self._rows_of_file + len(lines) > MOST_ROWS or self._size + size > LARGEST_FILE):
+            self._begin()
+        if lines and self._open is not None:
+            self._open.writelines(lines)
+        self._rows_of_file, self._size, self.rows = self._rows_of_file + len(lines), self._size + size, self.rows + len(lines)
+
+    def _begin(self) -> None:
+        """Begin the next file."""
+        self._end()
+        self.files.append(f"records-{len(self.files):05}.csv")
+        self._open = open(self._folder / self.files[-1], "xb")
+        self._open.write(_RECORDS)
+        self._rows_of_file, self._size = 0, len(_RECORDS)
+
+    def _end(self) -> None:
+        if self._open is not None:
+            self._open.close()
+            self._open = None
+
+    def __enter__(self) -> _Records:
+        return self
+
+    def __exit__(self, kind: object, *_: object) -> None:
+        if kind is None and not self.files:
+            self._begin()  # no row: a file without any
+        self._end()
