@@ -1,4 +1,4 @@
-"""Tables of an extract's tags, against a count by the test itself; and what goes wrong. No program is needed."""
+"""Tables of an extract's tags, against a count by the test itself; their records, against a model; and what goes wrong."""
 
 import contextlib
 import csv
@@ -140,7 +140,8 @@ def test_tables_of_an_extract(name, town, tmp_path):
     assert {key for _, key, _ in rows} == {*KEPT, *FAULTY} and {value for *_, value in rows} == set(VALUES) | {"no"}
     done = osm.extract(folder / name, folder / "means.csv", tmp_path / "out")
     unknown = Counter(key for _, key, _ in rows if key in FAULTY)
-    assert done == (2_000, len(elements), len(rows), ["tags-00000.csv"], left_out, unknown)
+    assert done[:6] == (2_000, len(elements), len(rows), ["tags-00000.csv"], left_out, unknown)
+    assert done[6:] == ([], 0, {})
     assert list(done.unknown.values()) == sorted(unknown.values(), reverse=True)
     assert read(tmp_path / "out" / "elements.csv", "element,way,first_node,last_node") == elements
     assert tables(tmp_path / "out")[0] == rows
@@ -164,6 +165,49 @@ def test_nothing_that_conditions_need_is_left_out(tmp_path):
         assert every[:2] == kept[:2] and told[0] == told[1]
         faults.update(line.split(" at ")[0] for line in told[0])
     assert {"Key", "Value", "Part"} <= faults
+
+
+def records_by_model(elements, rows):
+    """The lines of records of elements without faults, and the faults of the others, as a model of the translation has them."""
+    model = model_of("conditions_program").conditional_model
+    means = model.read_means([line.split(",") for line in MEANS.splitlines()[1:]])
+    lines, left_out = [], []
+    for element, *_ in elements:
+        tags = [(key, value) for number, key, value in rows if number == element]
+        says, _, _, faults = model.read_tags([(key, value.encode().decode("latin-1")) for key, value in tags], means,
+                                             model.Options(None, False))
+        lines += [] if faults else [f"{element},{','.join(row)}" for row in model.rows_of(says, means)]
+        told = [fault.removeprefix("row ").split(": ", 1) for fault in faults]
+        left_out += [[element, *tags[int(number) - 1], fault] for number, fault in told]
+    return lines, left_out
+
+
+def test_records_of_an_extract(tmp_path):
+    """Rows and faults are those of the model, whether the tables are large or small."""
+    ways = Maker(13).ways(600)
+    written(ways, tmp_path / "town.osm")
+    (tmp_path / "means.csv").write_text(MEANS)
+    elements, rows, _ = expected(ways)
+    lines, left_out = records_by_model(elements, rows)
+    assert len(lines) > 60 and len({element for element, *_ in left_out}) > 60
+    for most in (65_536, 7):
+        out = tmp_path / f"out{most}"
+        done = osm.extract(tmp_path / "town.osm", tmp_path / "means.csv", out, rows_per_table=most, records=True)
+        assert done.records == ["records-00000.csv"] and done.rows == len(lines)
+        records = (out / "records-00000.csv").read_text().splitlines()
+        assert records == ["element,direction,vehicles,domain", *lines]
+        assert read(out / "left_out.csv", "element,key,value,fault") == left_out
+        assert sum(done.at_fault.values()) == len({element for element, *_ in left_out})
+
+
+def test_means_at_fault_are_refused(tmp_path):
+    written(Maker(14).ways(50), tmp_path / "town.osm")
+    (tmp_path / "means.csv").write_text(MEANS + "mode,hgv,11\n")
+    with pytest.raises(gtd.Fault, match="Repeated") as raised:
+        osm.extract(tmp_path / "town.osm", tmp_path / "means.csv", tmp_path / "out", records=True)
+    row = MEANS.count("\n")
+    assert (raised.value.kind, raised.value.row, raised.value.line) == ("Repeated", row, row + 1)
+    assert not (tmp_path / "out").exists()
 
 
 def test_elements_are_not_split(town, tmp_path):
