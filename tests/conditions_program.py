@@ -1,8 +1,8 @@
 #!/usr/bin/env python3
 """`gtdesk conditions` against the plain model of tests/conditional_model.py.
 
-First come the worked rows and files of conditional/ and its tables of means at fault; then random files of tags, of which some
-rows are damaged. The record file is that of the model, byte for byte; or each fault is listed with its row, line and place, and
+First come the worked rows and files of conditional/ and its tables of means at fault, and the hundred values of examples/conditions;
+then random files of tags, of which some rows are damaged. The record file is that of the model, byte for byte; or each fault is listed with its row, line and place, and
 none is missing. The program reads hours as they are strictly written, so here the model does, too. Run it after `rt ci`, which
 builds the program.
 
@@ -112,6 +112,28 @@ def faulty_means(check, room):
                 check(status == 1 and heads(errors, "tags.csv") == [("1", "Header")], f"{row['bytes']!r}: {errors}")
 
 
+def hundred(check, chance, room):
+    """The values of examples/conditions: the rows of each close when its tag does, at drawn seconds; or its fault is told."""
+    folder = f"{HERE}/../examples/conditions"
+    with open(f"{folder}/means.csv", "rb") as source:
+        means = source.read()
+    table = conditional_model.read_means(list(csv.reader(io.StringIO(means.decode())))[1:])
+    for name in ("values", "refused"):
+        with open(f"{folder}/{name}.tags.csv", "rb") as source:
+            data = source.read()
+        tags = list(csv.reader(io.StringIO(data.decode())))[1:]
+        status, output, errors = run(data, means, room)
+        rows = list(csv.reader(io.StringIO(output)))[1:]
+        faults = []
+        for number, (element, *tag) in enumerate(tags, 1):
+            says, _, _, wrong = conditional_model.read_tags([tuple(tag)], table, PLAIN)
+            faults += [fault.replace("row 1", f"row {number}") for fault in wrong]
+            own = [row[1:] for row in rows if row[0] == element]
+            differ = wrong or conditional_model.check_rows(str(tag), says, table, own, chance, 150)
+            check(name == "refused" or not differ, f"{tag}: {differ}")
+        check(status == int(name == "refused") and heads(errors, "tags.csv") == numbered(faults), f"{name}: {errors}")
+
+
 def damaged(chance, text):
     """A field with a byte left out, put in or changed."""
     at = chance.randrange(len(text) + 1)
@@ -146,6 +168,7 @@ def main():
     with tempfile.TemporaryDirectory() as room:
         worked(check, (table, text.encode()), room)
         faulty_means(check, room)
+        hundred(check, chance, room)
         for _ in range(count):
             compare(check, written(drawn(chance, table)), (table, text.encode()), room)
     return check.end()
