@@ -65,6 +65,7 @@ put_documents() {
     done
     put 644 usr/share/doc/gtd/examples "$top"/examples/*.*
     put 644 usr/share/doc/gtd/examples/planner "$top"/examples/planner/*
+    put 644 usr/share/doc/gtd/examples/conditions "$top"/examples/conditions/*
     rm "$doc/CHANGELOG.md"
     put_notes
 }
