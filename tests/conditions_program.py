@@ -3,8 +3,8 @@
 
 First come the worked rows and files of conditional/, its tables of means at fault, and the hundred values of examples/conditions;
 then random files of tags, of which some rows are damaged. The record file is that of the model, byte for byte; or each fault is
-listed with its row, line and place, and none is missing. The program reads hours as they are strictly written, so here the model does, too. Run it after `rt ci`, which
-builds the program.
+listed with its row, line and place, and none is missing. The program reads hours as they are strictly written, so here the model
+does, too. Run it after `rt ci`, which builds the program.
 
 Usage: tests/conditions_program.py [COUNT [SEED]]
 """
