@@ -1,6 +1,6 @@
 -- What the command `conditions` prints, and how it ends.
 use Rattle.std.specs.Prelude.{◌≡◌, ℕ, ◌+◌, Bool, List, Option, Result, Ok, Err, IsErrOf, IsTrue, OnOk, string_bytes}
-use Rattle.gtd_conditional_file.specs.Run.{HasConverted}
+use Rattle.gtd_conditional_file.specs.Run.{HasConverted, TwoPaths}
 use Rattle.gtd_conditional_file.specs.declared.unconverted.Unconverted.{Unconverted}
 use Rattle.gtd_conditional_file.specs.declared.unconverted.Unconverted.TheVariants as run
 use Rattle.gtd_records.specs.declared.fault.RecordFault.TheVariants as records
@@ -27,12 +27,16 @@ abbrev pub IsListTold : Telling → Result ℕ Unconverted → Type 0
 IsListTold errors (Err (run.Faults list)) = Told errors (string_bytes list)
 IsListTold errors other = IsUntold errors
 
+-- The paths of the files.
+abbrev pub paths_of_plan : ConditionsPlan → TwoPaths
+paths_of_plan plan = record { tags = string_bytes plan.tags; means = string_bytes plan.means }
+
 -- The run of `conditions` had an answer, and all that the run promises for this answer holds.
 pub record RanConditions (plan : ConditionsPlan) (tags means before after : Option (List ℕ))
     (tags_silent means_silent ended : Bool) (errors : Telling) (result : Result Ending RunRefusal) : Type 0 where
   pub answer : Result ℕ Unconverted
   pub outcome : result ≡ conditions_outcome answer
-  pub converted : HasConverted (string_bytes plan.tags) (string_bytes plan.means) tags means before after answer
+  pub converted : HasConverted (paths_of_plan plan) means tags before after answer
   pub told : IsListTold errors answer
   pub whole : OnOk answer (IsTrue ended)
   pub tags_endless : IsErrOf answer run.TagsEndless → IsTrue tags_silent
