@@ -9,7 +9,6 @@ mod ask;
 mod diff;
 mod domain_hours;
 mod ending;
-mod hours_domain;
 mod hours_records;
 mod line;
 mod loose_hours;
