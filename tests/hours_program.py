@@ -3,8 +3,10 @@
 
 For each row of tests/hours/texts.csv, the domain that is printed contains the same minutes of four years as the hours by the
 model of hours, and as the domain beside them. For each row of tests/hours/faults.csv, that fault is printed, and nothing else.
-These texts are read with `--strict`, and printed alike without it. For each row of tests/hours/loose.csv, `gtdesk hours` prints
-the domain of its mended text and tells its warnings, `gtdesk mend hours` prints that text, or both tell its fault.
+These texts are read with `--strict`, and printed alike without it. For each row of tests/hours/hidden.csv, the rules that hide
+hours are told with the hours beside them. For each row of tests/hours/loose.csv, `gtdesk hours` prints the domain of its mended
+text and tells its warnings, `gtdesk mend hours` prints that text, or both tell its fault. Whatever the text, the warnings that are
+told are those by the model of hidden hours (tests/hidden_model.py).
 For these texts, for those of tests/rows/desk_hour*.rows that have a domain, and for texts of each form (every range of weekdays,
 months, weeks and so on that differs in how it is translated), `gtdesk hours --of DOMAIN` answers hours, whose domain is the same
 again; but not for those with offsets of days, which it does not look for. Then, for SECONDS, random texts of the grammar, whose
@@ -24,6 +26,7 @@ import subprocess
 import sys
 import time
 
+import hidden_model
 import hours
 import hours_model
 import model
@@ -47,11 +50,16 @@ def line_of(done, text):
     return rows.without_text(done.stderr.encode(), [text.encode()]).decode()
 
 
+def warned(text, german=False):
+    """The lines of the warnings of a text, by the model."""
+    return "".join(f"{NO_DOMAIN}warning {line}\n" for line in hidden_model.told(text.encode(), german))
+
+
 def run(text):
     """What the program prints for a text that is written strictly: the domain, or None and the fault."""
     done = told("hours", "--strict", "--", text)
     if done.returncode == 0:
-        expect(done.stderr == "" and done.stdout.endswith("\n"), f"{text!r}: {done.stdout!r}, {done.stderr!r}")
+        expect(done.stderr == warned(text) and done.stdout.endswith("\n"), f"{text!r}: {done.stdout!r}, {done.stderr!r}")
         return done.stdout[:-1], None
     line = line_of(done, text)
     expect(done.returncode == 1 and done.stdout == "" and line.startswith(NO_DOMAIN), f"{text!r}: {done.returncode}, {line!r}")
@@ -64,7 +72,7 @@ def check_text(row):
     domain, fault = run(text)
     expect(fault is None, f"{text}: {fault}")
     loosely = told("hours", "--", text)
-    expect((loosely.returncode, loosely.stdout, loosely.stderr) == (0, domain + "\n", ""), f"{text}: {loosely}")
+    expect((loosely.returncode, loosely.stdout, loosely.stderr) == (0, domain + "\n", warned(text)), f"{text}: {loosely}")
     opened = hours_model.open_minutes(hours_model.read(text.encode()), hours.FIRST, hours.DAYS)
     printed, beside = model.read(domain.encode()), model.read(row["domain"].encode())
     check_back(text, domain)
@@ -79,6 +87,14 @@ def check_fault(row):
     expect((domain, fault) == (None, f"{row['kind']} at {row['place']}"), f"{row['text']!r}: {domain}, {fault}")
 
 
+def check_hidden(row):
+    """The numbers of the rules that hide hours, each with the hours that keep them, are told in their order."""
+    text = row["text"]
+    kept = [hides.split(": ", 1)[1] for hides in row["hides"].split("|") if hides]
+    said = told("hours", "--", text).stderr.splitlines()
+    expect([line.split(": ", 3)[3] for line in said if ": warning Hides at " in line] == kept, f"{text!r}: {said}")
+
+
 def check_loose(row):
     """The domain of a text and its warnings, and the text as it is mended; or its fault."""
     text, names = row["text"], ["--day-names", row["names"]] if row["names"] else []
@@ -88,7 +104,9 @@ def check_loose(row):
         expect((read.returncode, read.stdout, line_of(read, text)) == fault, f"{text!r}: {read}")
         expect((mended.returncode, mended.stdout, line_of(mended, text)) == fault, f"{text!r}: {mended}")
         return
-    warnings = "".join(f"{NO_DOMAIN}warning {warning}\n" for warning in row["warnings"].split("; ") if warning)
+    warnings = warned(text, bool(row["names"]))
+    listed = [line[len(f"{NO_DOMAIN}warning "):] for line in warnings.splitlines() if "warning Hides" not in line]
+    expect(listed == [warning for warning in row["warnings"].split("; ") if warning], f"{text!r}: {warnings}")
     domain = (0, f"{run(row['mended'])[0]}\n", warnings)
     expect((read.returncode, read.stdout, read.stderr) == domain, f"{text!r}: {read}")
     expect((mended.returncode, mended.stdout, mended.stderr) == (0, row["mended"] + "\n", ""), f"{text!r}: {mended}")
@@ -240,8 +258,8 @@ def main():
     worked, forms = list(row_texts()), list(form_texts())
     checks = [lambda row=row: check_text(row) for row in texts] + [lambda row=row: check_fault(row) for row in faults]
     checks += [lambda text=text: check_round(text) for text in worked + forms]
-    loose = hours.rows_of("loose.csv")
-    checks += [lambda row=row: check_loose(row) for row in loose]
+    loose, hidden = hours.rows_of("loose.csv"), hours.rows_of("hidden.csv")
+    checks += [lambda row=row: check_loose(row) for row in loose] + [lambda row=row: check_hidden(row) for row in hidden]
     failed = 0
     with concurrent.futures.ThreadPoolExecutor(len(os.sched_getaffinity(0))) as pool:
         for failure in pool.map(judged, checks):
@@ -262,7 +280,8 @@ def main():
     if 2 * domains < rounds:
         print(f"FAILED only {domains} of {rounds} random texts have a domain")
         failed += 1
-    known = f"{len(texts)} texts, {len(faults)} faults, {len(loose)} loose texts, {len(worked)} texts of rows and {len(forms)} of forms"
+    known = f"{len(texts)} texts, {len(faults)} faults, {len(hidden)} texts with rules that may hide, {len(loose)} loose texts, "
+    known += f"{len(worked)} texts of rows and {len(forms)} of forms"
     print(f"{known}, and {rounds} random texts (seed {seed})")
     print(f"hours_program: {max(0, len(checks) + rounds - failed)} passed, {failed} failed")
     sys.exit(1 if failed else 0)

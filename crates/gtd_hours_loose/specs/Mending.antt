@@ -1,7 +1,7 @@
 -- The strict form of a loosely written text: what is written for each of its tokens, and in place of what.
 use Rattle.std.specs.Prelude.{ℕ, ◌≡◌, ◌+◌, ◌-◌, ◌==◌, nat_lt, not, Bool, List, [], ◌∷◌}
 use Rattle.std.specs.Prelude.{◌++◌, length}
-use Rattle.std.specs.Prelude.{drop, take, map, codes, decimal, bytes_eq, if◌then◌else◌}
+use Rattle.std.specs.Prelude.{drop, take, map, codes, bytes_eq, if◌then◌else◌}
 use Rattle.std.specs.Char.{to_ascii_lowercase}
 use Rattle.gtd_hours.specs.Written.{month_name, two_digits, weekday_name}
 use Rattle.gtd_hours_loose.specs.declared.behind.Behind.{Behind}
@@ -104,23 +104,8 @@ abbrev pub written_place : ℕ → ℕ → List Part → ℕ
 written_place place end [] = end
 written_place place end (p ∷ ps) = if p.start == place then p.from else written_place place end ps
 
--- ---- warnings
+-- ---- loose parts
 
 -- A part is written loosely exactly if its strict form is not what is written.
 abbrev pub is_loose : List ℕ → List ℕ → Part → Bool
 is_loose text strict p = not (bytes_eq (stretch text p.from p.to) (stretch strict p.start p.end))
-
--- What a warning says of a strict form: a space is named, and of a token that is left out nothing is said.
-abbrev pub form_label : List ℕ → List ℕ
-form_label [] = []
-form_label (byte ∷ bytes) = if byte == 32 then codes ": a space" else codes ": " ++ byte ∷ bytes
-
-abbrev pub warning_line : List ℕ → List ℕ → Part → List ℕ
-warning_line before strict p =
-    before ++ codes "Loose at " ++ decimal p.from ++ form_label (stretch strict p.start p.end) ++ codes "\n"
-
--- The warnings, one in a line behind these bytes, in the order of their places.
-abbrev pub warning_lines : List ℕ → List ℕ → List ℕ → List Part → List ℕ
-warning_lines before text strict [] = []
-warning_lines before text strict (p ∷ ps) =
-    (if is_loose text strict p then warning_line before strict p else []) ++ warning_lines before text strict ps

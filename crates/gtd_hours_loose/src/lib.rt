@@ -1,4 +1,4 @@
-//! Opening hours of OpenStreetMap as people write them: the strict form of a text that is written loosely, and its warnings.
+//! Opening hours of OpenStreetMap as people write them: the strict form of a text that is written loosely.
 //!
 //! The hours of a text are those of its strict form. A text that is hours as it is written is its own strict form.
 #![tactic(auto)]
@@ -8,13 +8,13 @@ pub mod laws;
 mod manner;
 mod mending;
 mod pairs;
+mod places;
 mod reader;
 mod strict;
-mod warnings;
 
 pub use manner::{Manner, read_hours_in};
 pub use mending::strict_form;
 pub use pairs::pair_fault;
+pub use places::{is_loose, written_place};
 pub use reader::{LooseFault, LooseHours, LooseReadFault, read_loose_hours};
 pub use strict::{Part, StrictForm, stretch};
-pub use warnings::{is_loose, push_warnings, written_place};

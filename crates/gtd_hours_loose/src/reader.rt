@@ -7,8 +7,8 @@ ghost use Rattle.gtd_hours_loose.specs.Reading.{token_fault};
 ghost use Rattle.gtd_hours_loose.specs.StrictForms.{IsStrictForm};
 
 use crate::mending::strict_form;
+use crate::places::written_place;
 use crate::strict::StrictForm;
-use crate::warnings::written_place;
 use gtd_hours::Hours;
 use gtd_hours_grammar::{FaultKind, HoursFault};
 use gtd_hours_loose_tokens::{DayNames, LooseStop, TokenFault};

@@ -1,21 +1,23 @@
--- What the command `hours` did for a text that may be written loosely, from what its parts did.
-use Rattle.std.proofs.Common.{◌≡◌, ◌⊎◌, inl, inr, refl, sym, ap, subst, true, false, ℕ, List, Bool, Option, Some, None}
+-- What the command `hours` did for a text, from what its parts did.
+use Rattle.std.proofs.Common.{◌≡◌, ◌⊎◌, inl, inr, refl, sym, ap, subst, ℕ, List, Bool, Option, Some, None}
 use Rattle.std.specs.Prelude.{Result, Ok, Err}
 use Rattle.std.specs.Io.KnownBytes.{Appends, Keeps}
 use Rattle.gtd_faults.specs.Run.{TookSome}
 use Rattle.gtd_hours.specs.declared.hours.Hours.{Hours}
+use Rattle.gtd_hours_loose.specs.Manners.{IsReadingIn}
+use Rattle.gtd_hours_loose.specs.declared.manner.Manner.{Manner}
 use Rattle.gtd_hours_loose.specs.declared.reader.LooseFault.TheVariants as loose
+use Rattle.gtd_hours_loose.specs.declared.reader.LooseHours.{LooseHours}
 use Rattle.gtd_hours_loose.specs.declared.reader.LooseReadFault.{LooseReadFault}
 use Rattle.gtd_hours_loose.specs.declared.reader.LooseReadFault.TheVariants as reading
-use Rattle.gtd_hours_loose_tokens.specs.declared.token.DayNames.{DayNames}
 use Rattle.gtdesk_plans.specs.Arguments.{Text}
-use Rattle.gtdesk_tool.specs.LooseHours.{AreLines, IsRefusal, IsUnread, IsUntranslated, PutLines, PutsLoose, unread}
-use Rattle.gtdesk_tool.specs.Running.{PutText, RanHours, failures_after_read}
-use Rattle.gtdesk_tool.specs.Telling.{IsUntold, Telling, Told, telling}
+use Rattle.gtdesk_tool.specs.LooseHours.{AreLines, IsRefusal, IsUnread, IsUntranslated, PutLines, RanHours, unread}
+use Rattle.gtdesk_tool.specs.Running.{PutText, failures_after_read}
+use Rattle.gtdesk_tool.specs.Telling.{IsUntold, Telling, ToldIfSome, telling}
 use Rattle.gtdesk_tool.specs.declared.ending.Ending.{Ending}
 use Rattle.gtdesk_tool.specs.declared.refusal.RunRefusal.{RunRefusal}
 use Rattle.gtdesk_tool.specs.declared.refusal.RunRefusal.TheVariants as refusal
-use Rattle.gtdesk_tool.proofs.RunningFacts.{TellsNone, of_domain, unread_text}
+use Rattle.gtdesk_tool.proofs.RunningFacts.{TellsNone}
 
 -- ---- a refusal of a text tells no failure of a device
 
@@ -24,22 +26,22 @@ tells_unread n (reading.Fault (loose.Hours why)) = (refl, refl)
 tells_unread n (reading.Fault (loose.Ambiguous place)) = (refl, refl)
 tells_unread n reading.NoMemory = (refl, refl)
 
-pub of_unread : (names : DayNames) (text : Text) (n : ℕ) (r : RunRefusal) → IsUnread names text r → TellsNone n r
-of_unread names text n r is = subst (λ (x : RunRefusal). TellsNone n x) (sym is.2) (tells_unread n is.0)
+pub of_unread : (how : Manner) (text : Text) (n : ℕ) (r : RunRefusal) → IsUnread how text r → TellsNone n r
+of_unread how text n r is = subst (λ (x : RunRefusal). TellsNone n x) (sym is.2) (tells_unread n is.0)
 
 of_untranslated : (hours : Hours) (n : ℕ) (r : RunRefusal) → IsUntranslated hours r → TellsNone n r
 of_untranslated hours n r (inl is) = subst (λ (x : RunRefusal). TellsNone n x) (sym is) (refl, refl)
 of_untranslated hours n r (inr is) = subst (λ (x : RunRefusal). TellsNone n x) (sym is.0) (refl, refl)
 
-pub of_refusal : (names : DayNames) (text : Text) (n : ℕ) (r : RunRefusal) → IsRefusal names text r → TellsNone n r
-of_refusal names text n r (inl is) = of_unread names text n r is
-of_refusal names text n r (inr is) = of_untranslated is.0.hours n r is.2
+pub of_refusal : (how : Manner) (text : Text) (n : ℕ) (r : RunRefusal) → IsRefusal how text r → TellsNone n r
+of_refusal how text n r (inl is) = of_unread how text n r is
+of_refusal how text n r (inr is) = of_untranslated is.0.hours n r is.2
 
 -- ---- the line of a domain, and warnings
 
 module _ (domain warnings : List ℕ) (old new : Option (List ℕ)) (ended : Bool) (errors : Telling) where
   pub lines_told : (text told : List ℕ) (e : Ending) → text ≡ domain → told ≡ warnings
-      → PutText (λ t. t ≡ text) (λ r. ⊥) old new ended (Ok e) → Told errors told
+      → PutText (λ t. t ≡ text) (λ r. ⊥) old new ended (Ok e) → ToldIfSome errors told
       → PutLines domain warnings old new ended errors (Ok e)
   lines_told text told e is same put tells = record {
     whole = (
@@ -47,7 +49,7 @@ module _ (domain warnings : List ℕ) (old new : Option (List ℕ)) (ended : Boo
       subst (λ (t : List ℕ). Appends old new t) is
           (subst (λ (t : List ℕ). Appends old new t) put.whole.1.1 put.whole.1.2),
       put.whole.2,
-      subst (Told errors) same tells,
+      subst (ToldIfSome errors) same tells,
     );
     refused = tt;
   }
@@ -65,13 +67,13 @@ module _ (domain warnings : List ℕ) (old new : Option (List ℕ)) (ended : Boo
       let part = part_of text r is put.refused in
       record { whole = tt; refused = (part.0, part.1, untold) }
 
-  pub loose_put : (names : DayNames) (text : Text) (result : Result Ending RunRefusal) → AreLines names text domain warnings
-      → PutLines domain warnings old new ended errors result → PutsLoose names text old new ended errors result
-  loose_put names text (Ok e) are put = record {
+  pub hours_put : (how : Manner) (text : Text) (result : Result Ending RunRefusal) → AreLines how text domain warnings
+      → PutLines domain warnings old new ended errors result → RanHours how text old new ended errors result
+  hours_put how text (Ok e) are put = record {
     whole = (put.whole.0, (domain, warnings, are, put.whole.1, put.whole.3), put.whole.2);
     refused = tt;
   }
-  loose_put names text (Err r) are put = record {
+  hours_put how text (Err r) are put = record {
     whole = tt;
     refused = (put.refused.2, inl (put.refused.0, (domain, warnings, are, put.refused.1)));
   }
@@ -80,26 +82,26 @@ keeps_same : (o : Option (List ℕ)) → Keeps o o
 keeps_same None = tt
 keeps_same (Some bytes) = refl
 
-pub loose_refused : (names : DayNames) (text : Text) (old : Option (List ℕ)) (ended : Bool) (told : Option (List ℕ)) (n : ℕ)
-    (r : RunRefusal) → IsRefusal names text r → PutsLoose names text old old ended (telling told told n n) (Err r)
-loose_refused names text old ended told n r is =
+pub hours_refused : (how : Manner) (text : Text) (old : Option (List ℕ)) (ended : Bool) (told : Option (List ℕ)) (n : ℕ)
+    (r : RunRefusal) → IsRefusal how text r → RanHours how text old old ended (telling told told n n) (Err r)
+hours_refused how text old ended told n r is =
     record { whole = tt; refused = ((keeps_same told, refl), inr (is, keeps_same old)) }
+
+-- memory was refused for the warnings of a text that is read
+pub warnings_refused : (how : Manner) (text : Text) (read : LooseHours) → IsReadingIn how text read
+    → IsRefusal how text refusal.Memory
+warnings_refused how text read reads = inr (read, reads, inl refl)
 
 -- ---- nothing is read
 
-module _ (names : DayNames) (text : Text) (old new : Option (List ℕ)) (ended : Bool) (errors : Telling) (n : ℕ) where
-  unread_loose_part : (r : RunRefusal)
-      → ((r ≡ refusal.Write) × ((domain : List ℕ) × (warnings : List ℕ) × AreLines names text domain warnings
-      × TookSome old new domain)) ⊎ (IsRefusal names text r × Keeps old new) → n ≡ failures_after_read (Err r) n
-  unread_loose_part r (inl part) = sym (ap (λ (x : RunRefusal). failures_after_read (Err x) n) part.0)
-  unread_loose_part r (inr is) = (of_refusal names text n r is.0).0
+module _ (how : Manner) (text : Text) (old new : Option (List ℕ)) (ended : Bool) (errors : Telling) (n : ℕ) where
+  unread_part : (r : RunRefusal)
+      → ((r ≡ refusal.Write) × ((domain : List ℕ) × (warnings : List ℕ) × AreLines how text domain warnings
+      × TookSome old new domain)) ⊎ (IsRefusal how text r × Keeps old new) → n ≡ failures_after_read (Err r) n
+  unread_part r (inl part) = sym (ap (λ (x : RunRefusal). failures_after_read (Err x) n) part.0)
+  unread_part r (inr is) = (of_refusal how text n r is.0).0
 
-  unread_loose : (result : Result Ending RunRefusal) → PutsLoose names text old new ended errors result
+  pub unread_hours : (result : Result Ending RunRefusal) → RanHours how text old new ended errors result
       → n ≡ failures_after_read result n
-  unread_loose (Ok e) put = refl
-  unread_loose (Err r) put = unread_loose_part r put.refused.1
-
-  pub unread_hours : (strict : Bool) (result : Result Ending RunRefusal) → RanHours strict names text old new ended errors result
-      → n ≡ failures_after_read result n
-  unread_hours true result ran = unread_text _ _ old new ended n (of_domain text n) result ran
-  unread_hours false result ran = unread_loose result ran
+  unread_hours (Ok e) put = refl
+  unread_hours (Err r) put = unread_part r put.refused.1

@@ -21,7 +21,7 @@ use Rattle.gtd_picture.specs.Domain.{HasPut}
 use Rattle.gtdesk_tool.specs.declared.refusal.RunRefusal.{RunRefusal}
 use Rattle.gtdesk_tool.specs.declared.refusal.RunRefusal.TheVariants as refusal
 use Rattle.gtdesk_tool.specs.declared.ending.Ending.{Ending}
-use Rattle.gtdesk_tool.specs.Running.{IsHoursRefusal, IsTextRefusal, PutText, RanDomainPicture, failures_after_read}
+use Rattle.gtdesk_tool.specs.Running.{IsHoursRefusal, PutText, RanDomainPicture, failures_after_read}
 use Rattle.gtdesk_tool.specs.Telling.{Telling, Told}
 use Rattle.gtdesk_tool.specs.Running.{failures_after_write, listing_outcome, outcome_of, picture_outcome, records_outcome}
 
@@ -162,22 +162,6 @@ of_memory n r is = subst (λ (x : RunRefusal). TellsNone n x) (sym is) (refl, re
 pub of_hours : (n : ℕ) (r : RunRefusal) → IsHoursRefusal r → TellsNone n r
 of_hours n r (inl is) = subst (λ (x : RunRefusal). TellsNone n x) (sym is) (refl, refl)
 of_hours n r (inr is) = of_memory n r is
-
-pub of_domain : (text : List ℕ) (n : ℕ) (r : RunRefusal) → IsTextRefusal text r → TellsNone n r
-of_domain text n (refusal.NoDomain why) is = (refl, refl)
-of_domain text n refusal.Memory is = (refl, refl)
-of_domain text n (refusal.Word why) is = absurd is
-of_domain text n refusal.NoHours is = absurd is
-of_domain text n refusal.NoElement is = absurd is
-of_domain text n refusal.Crowded is = absurd is
-of_domain text n (refusal.Records why) is = absurd is
-of_domain text n refusal.Open is = absurd is
-of_domain text n (refusal.Old why) is = absurd is
-of_domain text n refusal.OldOpen is = absurd is
-of_domain text n (refusal.Means why) is = absurd is
-of_domain text n refusal.MeansOpen is = absurd is
-of_domain text n (refusal.Questions why) is = absurd is
-of_domain text n refusal.Write is = absurd is
 
 pub of_none : (n : ℕ) (r : RunRefusal) → ⊥ → TellsNone n r
 of_none n r none = absurd none

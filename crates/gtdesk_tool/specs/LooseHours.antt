@@ -1,7 +1,6 @@
--- What is printed for a text of opening hours that may be written loosely, and what is told of it, where names of weekdays are
--- these.
-use Rattle.std.specs.Prelude.{◌≡◌, ◌↔◌, ◌⊎◌, ◌++◌, ◌<◌, ℕ, ℤ, Bool, List, [], Option, Some, None, Result, IfErr}
-use Rattle.std.specs.Prelude.{IfOk, IsTrue, codes}
+-- What is printed for a text of opening hours that is read strictly or loosely, and what is told of it.
+use Rattle.std.specs.Prelude.{◌≡◌, ◌↔◌, ◌⊎◌, ◌++◌, ◌<◌, ℕ, ℤ, Bool, true, false, List, Option, Result, IfErr, IfOk, IsTrue}
+use Rattle.std.specs.Prelude.{codes}
 use Rattle.std.specs.Io.KnownBytes.{Appends, Keeps}
 use Rattle.gtd_core.specs.Limits.{most_basic_domains}
 use Rattle.gtd_core.specs.Parts.{domain_tree}
@@ -11,28 +10,38 @@ use Rattle.gtd_hours.specs.Cost.{hours_cost}
 use Rattle.gtd_hours.specs.Opening.{IsOpen}
 use Rattle.gtd_hours.specs.Written.{hours_text}
 use Rattle.gtd_hours.specs.declared.hours.Hours.{Hours}
-use Rattle.gtd_hours_loose.specs.Mending.{warning_lines}
-use Rattle.gtd_hours_loose.specs.Reading.{IsLooseReading, IsReadFault}
+use Rattle.gtd_hours_loose.specs.Manners.{IsReadFaultIn, IsReadingIn}
+use Rattle.gtd_hours_loose.specs.Reading.{IsLooseReading}
+use Rattle.gtd_hours_loose.specs.declared.manner.Manner.{Manner}
+use Rattle.gtd_hours_loose.specs.declared.manner.Manner.TheVariants as manner
 use Rattle.gtd_hours_loose.specs.declared.reader.LooseFault.TheVariants as loose
 use Rattle.gtd_hours_loose.specs.declared.reader.LooseHours.{LooseHours}
 use Rattle.gtd_hours_loose.specs.declared.reader.LooseReadFault.{LooseReadFault}
 use Rattle.gtd_hours_loose.specs.declared.reader.LooseReadFault.TheVariants as reading
-use Rattle.gtd_hours_loose.specs.declared.strict.StrictForm.{StrictForm}
 use Rattle.gtd_hours_loose_tokens.specs.declared.token.DayNames.{DayNames}
 use Rattle.gtd_hours_search.specs.Membership.{InDomain}
+use Rattle.gtd_hours_warnings.specs.Lines.{warning_lines}
+use Rattle.gtd_hours_warnings.specs.Warnings.{AreWarnings}
+use Rattle.gtd_hours_warnings.specs.declared.warnings.Warning.{Warning}
 use Rattle.gtd_text.specs.Canonical.{canonical}
 use Rattle.gtdesk_plans.specs.Arguments.{Text}
-use Rattle.gtdesk_tool.specs.Telling.{IsUntold, Telling, Told}
+use Rattle.gtdesk_tool.specs.Telling.{IsUntold, Telling, ToldIfSome}
 use Rattle.gtdesk_tool.specs.declared.ending.Ending.{Ending}
 use Rattle.gtdesk_tool.specs.declared.ending.Ending.TheVariants as ending
 use Rattle.gtdesk_tool.specs.declared.refusal.RunRefusal.{RunRefusal}
 use Rattle.gtdesk_tool.specs.declared.refusal.RunRefusal.TheVariants as refusal
 use Rattle.gtdesk_words.specs.declared.refusal.NoDomain.TheVariants as none
 
--- The warnings of a text with this strict form, one in a line. A text without one is written strictly.
-abbrev pub warnings_of : Text → Option StrictForm → List ℕ
-warnings_of text None = []
-warnings_of text (Some form) = warning_lines (codes "gtdesk: TEXT: warning ") text form.text.items form.parts.items
+-- A text that is to be written strictly is read as it is written; another one also where it is written loosely, with these names
+-- of weekdays.
+abbrev pub manner_of : Bool → DayNames → Manner
+manner_of true names = manner.Strict
+manner_of false names = manner.Loose names
+
+-- The lines are the warnings of a text from which these hours are read, one in a line.
+abbrev pub AreWarningLines : Text → LooseHours → List ℕ → Type 0
+AreWarningLines text read lines =
+    (found : List Warning) × AreWarnings text read found × (lines ≡ warning_lines (codes "gtdesk: TEXT: warning ") found)
 
 -- The line is the canonical text of some domain, with a line end, and this has exactly the seconds at which the hours are open.
 pub record Translates (hours : Hours) (line : List ℕ) : Type 0 where
@@ -41,11 +50,11 @@ pub record Translates (hours : Hours) (line : List ℕ) : Type 0 where
   pub written : line ≡ canonical (domain_tree domain) ++ codes "\n"
 
 -- The lines of the domain of the hours that the text stands for, and of its warnings.
-pub record AreLines (names : DayNames) (text : Text) (domain warnings : List ℕ) : Type 0 where
+pub record AreLines (how : Manner) (text : Text) (domain warnings : List ℕ) : Type 0 where
   pub read : LooseHours
-  pub reads : IsLooseReading names text read
+  pub reads : IsReadingIn how text read
   pub translates : Translates read.hours domain
-  pub warns : warnings ≡ warnings_of text read.form
+  pub warns : AreWarningLines text read warnings
 
 -- The line of the hours that the text stands for, as they are strictly written.
 pub record IsMendedLine (names : DayNames) (text : Text) (line : List ℕ) : Type 0 where
@@ -60,8 +69,8 @@ unread (reading.Fault (loose.Ambiguous place)) = refusal.NoDomain (none.Ambiguou
 unread reading.NoMemory = refusal.Memory
 
 -- The refusal gives the first fault of the text, or is of memory.
-abbrev pub IsUnread : DayNames → Text → RunRefusal → Type 0
-IsUnread names text r = (fault : LooseReadFault) × IsReadFault names text fault × (r ≡ unread fault)
+abbrev pub IsUnread : Manner → Text → RunRefusal → Type 0
+IsUnread how text r = (fault : LooseReadFault) × IsReadFaultIn how text fault × (r ≡ unread fault)
 
 -- The refusal is of memory, or the hours take too many basic domains.
 abbrev pub IsUntranslated : Hours → RunRefusal → Type 0
@@ -69,21 +78,22 @@ IsUntranslated hours r =
     (r ≡ refusal.Memory) ⊎ ((r ≡ refusal.NoDomain none.TooMany) × (most_basic_domains < hours_cost hours))
 
 -- Why there are no lines for a text.
-abbrev pub IsRefusal : DayNames → Text → RunRefusal → Type 0
-IsRefusal names text r =
-    IsUnread names text r ⊎ ((read : LooseHours) × IsLooseReading names text read × IsUntranslated read.hours r)
+abbrev pub IsRefusal : Manner → Text → RunRefusal → Type 0
+IsRefusal how text r =
+    IsUnread how text r ⊎ ((read : LooseHours) × IsReadingIn how text read × IsUntranslated read.hours r)
 
--- The line of the domain was put whole, the output was ended, and the warnings were told. If the output failed, it had taken a
--- first part of the line, and nothing was told.
+-- The line of the domain was put whole, the output was ended, and the warnings were told, if there are any. If the output failed,
+-- it had taken a first part of the line, and nothing was told.
 pub record PutLines (domain warnings : List ℕ) (old new : Option (List ℕ)) (ended : Bool) (errors : Telling)
     (result : Result Ending RunRefusal) : Type 0 where
-  pub whole : IfOk result (λ e. (e ≡ ending.Done) × Appends old new domain × IsTrue ended × Told errors warnings)
+  pub whole : IfOk result (λ e. (e ≡ ending.Done) × Appends old new domain × IsTrue ended × ToldIfSome errors warnings)
   pub refused : IfErr result (λ r. (r ≡ refusal.Write) × TookSome old new domain × IsUntold errors)
 
--- The same of the lines of a text. Any other refusal has its cause; then nothing was put or told.
-pub record PutsLoose (names : DayNames) (text : Text) (old new : Option (List ℕ)) (ended : Bool) (errors : Telling)
+-- What `hours` did for a text that is read in this manner: the same of its lines. Any other refusal has its cause; then nothing
+-- was put or told.
+pub record RanHours (how : Manner) (text : Text) (old new : Option (List ℕ)) (ended : Bool) (errors : Telling)
     (result : Result Ending RunRefusal) : Type 0 where
   pub whole : IfOk result (λ e. (e ≡ ending.Done) × ((domain : List ℕ) × (warnings : List ℕ)
-      × AreLines names text domain warnings × Appends old new domain × Told errors warnings) × IsTrue ended)
+      × AreLines how text domain warnings × Appends old new domain × ToldIfSome errors warnings) × IsTrue ended)
   pub refused : IfErr result (λ r. IsUntold errors × (((r ≡ refusal.Write) × ((domain : List ℕ) × (warnings : List ℕ)
-      × AreLines names text domain warnings × TookSome old new domain)) ⊎ (IsRefusal names text r × Keeps old new)))
+      × AreLines how text domain warnings × TookSome old new domain)) ⊎ (IsRefusal how text r × Keeps old new)))

@@ -11,14 +11,13 @@ use Rattle.gtd_report.specs.Run.{AcceptedFilesArePut, HasRun, IsTableYear, IsVeh
 use Rattle.gtd_report.specs.Run.{UnacceptedFilesPutNothing}
 use Rattle.gtd_picture.specs.Domain.{HasPut, IsDomainSeen}
 use Rattle.gtd_picture.specs.Open.{IsOpenSeen}
-use Rattle.gtdesk_tool.specs.Hours.{IsDomainLine, IsHoursLine}
-use Rattle.gtdesk_tool.specs.LooseHours.{IsMendedLine, IsUnread, PutsLoose}
+use Rattle.gtdesk_tool.specs.Hours.{IsHoursLine}
+use Rattle.gtdesk_tool.specs.LooseHours.{IsMendedLine, IsUnread, RanHours, manner_of}
 use Rattle.gtdesk_tool.specs.Mended.{RanMended}
 use Rattle.gtdesk_tool.specs.Noted.{IsNoted, vehicle_note}
 use Rattle.gtdesk_tool.specs.Telling.{IsUntold, Telling, Told, ToldIfSome}
 use Rattle.gtd_warnings.specs.declared.file.Asked.{Asked}
 use Rattle.gtdesk_tool.specs.Comparing.{HasCompared}
-use Rattle.gtdesk_words.specs.HoursWords.{IsNoDomainOf}
 use Rattle.gtdesk_plans.specs.declared.commands.picture.PictureSubject.{PictureSubject}
 use Rattle.gtdesk_words.specs.declared.refusal.Reason.TheVariants as reason
 use Rattle.gtdesk_words.specs.declared.refusal.WordName.TheVariants as name
@@ -32,7 +31,7 @@ use Rattle.gtd_hours_file.specs.Warnings.{IsWarned, lines_of}
 use Rattle.gtd_hours_file.specs.declared.translated.Translated.{Translated}
 use Rattle.gtd_hours_file.specs.declared.untranslated.Untranslated.{Untranslated}
 use Rattle.gtd_hours_file.specs.declared.untranslated.Untranslated.TheVariants as hours
-use Rattle.gtd_hours_loose_tokens.specs.declared.token.DayNames.{DayNames}
+use Rattle.gtd_hours_loose.specs.declared.manner.Manner.TheVariants as manner
 use Rattle.gtd_now.specs.Now.{IsNowOf}
 use Rattle.gtd_now.specs.Query.{Query}
 use Rattle.gtd_now.specs.Run.{TellsVehicle, entries_of}
@@ -172,12 +171,6 @@ pub record PutText (IsText : List ℕ → Type 0) (IsCause : RunRefusal → Type
 abbrev pub IsHoursRefusal : RunRefusal → Type 0
 IsHoursRefusal r = (r ≡ refusal.NoHours) ⊎ (r ≡ refusal.Memory)
 
--- The refusal is of memory, or says why the text has no domain.
-abbrev pub IsTextRefusal : List ℕ → RunRefusal → Type 0
-IsTextRefusal text (refusal.NoDomain why) = IsNoDomainOf text why
-IsTextRefusal text refusal.Memory = Unit {0}
-IsTextRefusal text other = ⊥
-
 -- What the output for errors took for the answer of a run that translates a file of hours: the warnings, if there are any; or the
 -- list of the faults.
 abbrev pub IsToldOf : Telling → Result Translated Untranslated → Type 0
@@ -205,18 +198,12 @@ pub record RanRecords (path : List ℕ) (file old new : Option (List ℕ)) (sile
   pub whole : OnOk answer (IsTrue ended)
   pub endless : IsErrOf answer hours.Endless → IsTrue silent
 
--- What `hours` did for a text that is to be written strictly, or may be written loosely with these names of weekdays.
-abbrev pub RanHours : Bool → DayNames → List ℕ → Option (List ℕ) → Option (List ℕ) → Bool → Telling → Result Ending RunRefusal
-    → Type 0
-RanHours true names text old new ended errors result = PutText (IsDomainLine text) (IsTextRefusal text) old new ended result
-RanHours false names text old new ended errors result = PutsLoose names text old new ended errors result
-
 -- The plan puts nothing to the output for errors.
 abbrev pub IsQuiet : OnePlan → Type 0
 IsQuiet (plan.Now p) = ⊥
 IsQuiet (plan.Records files) = ⊥
 IsQuiet (plan.Mend file) = ⊥
-IsQuiet (plan.DomainOf p) = IsTrue p.strict
+IsQuiet (plan.DomainOf p) = ⊥
 IsQuiet other = ⊤
 
 -- The plan reads no file.
@@ -252,7 +239,7 @@ HasRunPlan (plan.Words p) path file old new silent ended errors result =
 HasRunPlan (plan.HoursOf domain) path file old new silent ended errors result =
     PutText (IsHoursLine domain) IsHoursRefusal old new ended result
 HasRunPlan (plan.DomainOf p) path file old new silent ended errors result =
-    RanHours p.strict p.names (string_bytes p.text) old new ended errors result
+    RanHours (manner_of p.strict p.names) (string_bytes p.text) old new ended errors result
 HasRunPlan (plan.Same p) path file old new silent ended errors result =
     HasCompared p.first p.second p.from.second.0 old new ended result
 HasRunPlan (plan.SameRows files) path file old new silent ended errors result =
@@ -262,7 +249,8 @@ HasRunPlan (plan.Records files) path file old new silent ended errors result =
 HasRunPlan (plan.Mend name) path file old new silent ended errors result =
     RanMended path file old new silent ended errors result
 HasRunPlan (plan.MendHours p) path file old new silent ended errors result =
-    PutText (IsMendedLine p.names (string_bytes p.text)) (IsUnread p.names (string_bytes p.text)) old new ended result
+    PutText (IsMendedLine p.names (string_bytes p.text)) (IsUnread (manner.Loose p.names) (string_bytes p.text)) old new ended
+    result
 HasRunPlan (plan.Show text) path file old new silent ended errors result =
     PutText (λ t. t ≡ string_bytes text) (λ r. ⊥) old new ended result
 

@@ -37,8 +37,8 @@ pub(crate) fn tell<E: Output>(errors: &mut E, lines: &[u8])
     let _ = put_line(errors, &mut progress, lines);
 }
 
-// Puts lines, if there are any.
-fn tell_if_some<E: Output>(errors: &mut E, lines: &[u8])
+/// Puts lines, if there are any.
+pub(crate) fn tell_if_some<E: Output>(errors: &mut E, lines: &[u8])
     requires tellable { E.failure_count errors.old < u64.MAX }
     ensures told { ToldIfSome
         (telling (E.taken errors.old) (E.taken errors.new) (E.failure_count errors.old) (E.failure_count errors.new)) lines.now }

@@ -10,7 +10,6 @@ mod conditions;
 mod diff;
 mod domain_hours;
 mod ending;
-mod hours_domain;
 mod hours_records;
 mod line;
 mod loose_hours;

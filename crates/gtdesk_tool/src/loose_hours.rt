@@ -1,28 +1,29 @@
-//! The command `hours` of a text that may be written loosely, and `mend hours`, which prints its strict form.
+//! The command `hours` of a text, which may be written loosely, and `mend hours`, which prints its strict form.
 
-ghost use Rattle.std.specs.Prelude.{◌≡◌, ◌<◌, IfErr, IfOk, IsTrue, Some, string_bytes};
-ghost use Rattle.gtd_hours_loose.specs.Reading.{IsLooseReading};
+ghost use Rattle.std.specs.Prelude.{◌≡◌, ◌++◌, ◌<◌, IfErr, IfOk, codes, string_bytes};
+ghost use Rattle.gtd_core.specs.Parts.{domain_tree};
+ghost use Rattle.gtd_hours_loose.specs.Manners.{IsReadingIn};
+ghost use Rattle.gtd_text.specs.Canonical.{canonical};
 ghost use Rattle.gtdesk_words.specs.HoursWords.{IsTranslation};
 ghost use Rattle.gtdesk_tool.specs.LooseHours as spec;
-ghost use Rattle.gtdesk_tool.specs.LooseHours.{AreLines, IsMendedLine, IsRefusal, IsUnread, IsUntranslated, PutLines, PutsLoose};
-ghost use Rattle.gtdesk_tool.specs.LooseHours.{Translates};
-ghost use Rattle.gtdesk_tool.specs.Running.{PutText, RanHours, failures_after_write};
+ghost use Rattle.gtdesk_tool.specs.LooseHours.{AreLines, AreWarningLines, IsMendedLine, IsRefusal, IsUnread, IsUntranslated};
+ghost use Rattle.gtdesk_tool.specs.LooseHours.{PutLines, RanHours, Translates, manner_of};
+ghost use Rattle.gtdesk_tool.specs.Running.{PutText, failures_after_write};
 ghost use Rattle.gtdesk_tool.specs.Telling.{telling};
 
 use crate::domain_hours::hours_line_of;
 use crate::ending::Ending;
-use crate::hours_domain::{domain_line_of, print_domain_of};
-use crate::hours_records::tell;
+use crate::hours_records::tell_if_some;
 use crate::performer::print_text;
 use crate::refusal::RunRefusal;
 use gtd_core::Domain;
 use gtd_devices::Output;
 use gtd_hours::Hours;
 use gtd_hours_domain::{TranslationFault, domain_of};
-use gtd_hours_loose::{
-    LooseFault, LooseHours, LooseReadFault, StrictForm, push_warnings, read_loose_hours,
-};
+use gtd_hours_loose::{LooseFault, LooseHours, LooseReadFault, Manner, read_hours_in};
 use gtd_hours_loose_tokens::DayNames;
+use gtd_hours_warnings::{push_lines, warnings_of};
+use gtd_text::print_domain;
 use gtdesk_plans::HoursPlan;
 use gtdesk_words::NoDomain;
 use std::alloc::{AllocError, Global};
@@ -35,6 +36,17 @@ const BEFORE: &[u8] = b"gtdesk: TEXT: warning ";
 struct Lines {
     domain: String,
     warnings: Vec<u8>,
+}
+
+/// How a text is read: as it is written, if that is asked for, and else also where it is written loosely.
+pub(crate) fn manner_of(strict: bool, names: DayNames) -> Manner
+    ensures { result ≡ manner_of strict names }
+{
+    if strict {
+        Manner::Strict
+    } else {
+        Manner::Loose(names)
+    }
 }
 
 // Why a text is not read.
@@ -53,33 +65,24 @@ fn unread(fault: LooseReadFault) -> RunRefusal
 }
 
 // The hours that the text stands for, with its strict form if it is written loosely.
-fn read(alloc: Global, text: &str, names: DayNames) -> Result<LooseHours, RunRefusal>
-    ensures read { IfOk result (IsLooseReading names text.now) }
-    ensures refused { IfErr result (IsUnread names text.now) }
+fn read(alloc: Global, text: &str, manner: Manner) -> Result<LooseHours, RunRefusal>
+    ensures read { IfOk result (IsReadingIn manner text.now) }
+    ensures refused { IfErr result (IsUnread manner text.now) }
 {
-    match read_loose_hours(alloc, text.as_bytes(), names) {
+    match read_hours_in(alloc, text.as_bytes(), manner) {
         Ok(read) => Ok(read),
         Err(fault) => Err(unread(fault)),
     }
 }
 
-// The lines of the warnings of a text with this strict form.
-fn warnings_with(alloc: Global, text: &str, form: &StrictForm) -> Result<Vec<u8>, AllocError>
-    ensures { IfOk result (λ lines. lines.items ≡ spec.warnings_of text.now (Some form.now)) }
+// The lines of the warnings of a text from which these hours are read.
+fn warning_lines(alloc: Global, text: &str, read: &LooseHours) -> Result<Vec<u8>, AllocError>
+    ensures { IfOk result (λ lines. AreWarningLines text.now read.now lines.items) }
 {
+    let warnings = warnings_of(alloc, text.as_bytes(), read)?;
     let mut lines = Vec::new(alloc);
-    push_warnings(&mut lines, BEFORE, text.as_bytes(), form)?;
+    push_lines(&mut lines, BEFORE, warnings.as_slice())?;
     Ok(lines)
-}
-
-// The same of a text that may have no strict form of its own.
-fn warnings_of(alloc: Global, text: &str, form: &Option<StrictForm>) -> Result<Vec<u8>, AllocError>
-    ensures { IfOk result (λ lines. lines.items ≡ spec.warnings_of text.now form.now) }
-{
-    match form {
-        Some(form) => warnings_with(alloc, text, form),
-        None => Ok(Vec::new(alloc)),
-    }
 }
 
 // The domain with exactly the seconds at which the hours are open.
@@ -92,6 +95,15 @@ fn domain_with(alloc: Global, hours: &Hours) -> Result<Domain, RunRefusal>
         Err(TranslationFault::TooMany) => Err(RunRefusal::NoDomain(NoDomain::TooMany)),
         Err(TranslationFault::NoMemory) => Err(RunRefusal::Memory),
     }
+}
+
+// The canonical text of a domain in one line, with its end.
+fn domain_line_of(alloc: Global, domain: &Domain) -> Result<String, AllocError>
+    ensures exact { IfOk result (λ line. string_bytes line ≡ canonical (domain_tree domain.now) ++ codes "\n") }
+{
+    let mut line = print_domain(alloc, domain)?;
+    line.push_str("\n")?;
+    Ok(line)
 }
 
 // The line of the domain with exactly the seconds at which the hours are open.
@@ -110,11 +122,11 @@ fn domain_line(alloc: Global, hours: &Hours) -> Result<String, RunRefusal>
 }
 
 // The lines of the text.
-fn lines_of(alloc: Global, text: &str, names: DayNames) -> Result<Lines, RunRefusal>
-    ensures lines { IfOk result (λ lines. AreLines names text.now (string_bytes lines.domain) lines.warnings.items) }
-    ensures refused { IfErr result (IsRefusal names text.now) }
+fn lines_of(alloc: Global, text: &str, manner: Manner) -> Result<Lines, RunRefusal>
+    ensures lines { IfOk result (λ lines. AreLines manner text.now (string_bytes lines.domain) lines.warnings.items) }
+    ensures refused { IfErr result (IsRefusal manner text.now) }
 {
-    let read = match read(alloc, text, names) {
+    let read = match read(alloc, text, manner) {
         Ok(read) => read,
         Err(refusal) => return Err(refusal),
     };
@@ -122,13 +134,13 @@ fn lines_of(alloc: Global, text: &str, names: DayNames) -> Result<Lines, RunRefu
         Ok(domain) => domain,
         Err(refusal) => return Err(refusal),
     };
-    match warnings_of(alloc, text, &read.form) {
+    match warning_lines(alloc, text, &read) {
         Ok(warnings) => Ok(Lines { domain, warnings }),
         Err(_) => Err(RunRefusal::Memory),
     }
 }
 
-// Puts the line of a domain, ends the output, and then tells the warnings.
+// Puts the line of a domain, ends the output, and then tells the warnings, if there are any.
 fn put_lines<O: Output, E: Output>(
     output: &mut O,
     errors: &mut E,
@@ -144,36 +156,15 @@ fn put_lines<O: Output, E: Output>(
 {
     match print_text(output, lines.domain.as_str()) {
         Ok(ending) => {
-            tell(errors, lines.warnings.as_slice());
+            tell_if_some(errors, lines.warnings.as_slice());
             Ok(ending)
         }
         Err(refusal) => Err(refusal),
     }
 }
 
-// Puts the domain with exactly the seconds at which the hours of the text are open, also where it is written loosely, and ends
-// the output. Then it tells where the text is written loosely.
-fn print_loose<O: Output, E: Output>(
-    alloc: Global,
-    output: &mut O,
-    errors: &mut E,
-    text: &str,
-    names: DayNames,
-) -> Result<Ending, RunRefusal>
-    requires writable { O.failure_count output.old < u64.MAX }
-    requires tellable { E.failure_count errors.old < u64.MAX }
-    ensures put { PutsLoose names text.now (O.taken output.old) (O.taken output.new) (O.is_ended output.new)
-        (telling (E.taken errors.old) (E.taken errors.new) (E.failure_count errors.old) (E.failure_count errors.new)) result }
-    ensures write_faults { O.failure_count output.new
-        ≡ failures_after_write result (O.failure_count output.old) }
-{
-    match lines_of(alloc, text, names) {
-        Ok(lines) => put_lines(output, errors, &lines),
-        Err(refusal) => Err(refusal),
-    }
-}
-
-/// Puts the domain of the text, and ends the output. If the text is to be written strictly, nothing is told.
+/// Puts the domain with exactly the seconds at which the hours of the text are open, and ends the output. Then it tells the
+/// warnings of the text: where it is written loosely, if it may be, and which of its rules hide hours.
 pub(crate) fn print_hours_domain<O: Output, E: Output>(
     alloc: Global,
     output: &mut O,
@@ -182,26 +173,28 @@ pub(crate) fn print_hours_domain<O: Output, E: Output>(
 ) -> Result<Ending, RunRefusal>
     requires writable { O.failure_count output.old < u64.MAX }
     requires tellable { E.failure_count errors.old < u64.MAX }
-    ensures ran { RanHours plan.now.strict plan.now.names (string_bytes plan.now.text) (O.taken output.old)
+    ensures ran { RanHours (manner_of plan.now.strict plan.now.names) (string_bytes plan.now.text) (O.taken output.old)
         (O.taken output.new) (O.is_ended output.new)
         (telling (E.taken errors.old) (E.taken errors.new) (E.failure_count errors.old) (E.failure_count errors.new)) result }
     ensures write_faults { O.failure_count output.new
         ≡ failures_after_write result (O.failure_count output.old) }
-    ensures quiet { IsTrue plan.now.strict → errors.new ≡ errors.old }
 {
-    if plan.strict {
-        print_domain_of(alloc, output, plan.text.as_str())
-    } else {
-        print_loose(alloc, output, errors, plan.text.as_str(), plan.names)
+    match lines_of(
+        alloc,
+        plan.text.as_str(),
+        manner_of(plan.strict, plan.names),
+    ) {
+        Ok(lines) => put_lines(output, errors, &lines),
+        Err(refusal) => Err(refusal),
     }
 }
 
 // The line of the hours that the text stands for, as they are strictly written.
 fn mended_line(alloc: Global, text: &str, names: DayNames) -> Result<String, RunRefusal>
     ensures line { IfOk result (λ line. IsMendedLine names text.now (string_bytes line)) }
-    ensures refused { IfErr result (IsUnread names text.now) }
+    ensures refused { IfErr result (IsUnread (Manner.Loose names) text.now) }
 {
-    let read = match read(alloc, text, names) {
+    let read = match read(alloc, text, Manner::Loose(names)) {
         Ok(read) => read,
         Err(refusal) => return Err(refusal),
     };
@@ -219,8 +212,8 @@ pub(crate) fn print_mended_hours<O: Output>(
     names: DayNames,
 ) -> Result<Ending, RunRefusal>
     requires writable { O.failure_count output.old < u64.MAX }
-    ensures put { PutText (IsMendedLine names text.now) (IsUnread names text.now) (O.taken output.old) (O.taken output.new)
-        (O.is_ended output.new) result }
+    ensures put { PutText (IsMendedLine names text.now) (IsUnread (Manner.Loose names) text.now) (O.taken output.old)
+        (O.taken output.new) (O.is_ended output.new) result }
     ensures write_faults { O.failure_count output.new
         ≡ failures_after_write result (O.failure_count output.old) }
 {

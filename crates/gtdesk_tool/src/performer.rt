@@ -154,8 +154,8 @@ pub struct Turn<'a> {
 
 /// Carries a plan out for one of its files, whose bytes the input brings: puts what it asks for, and ends the output. If the plan
 /// reads none, nothing is pulled. Four plans put something to the output for errors: `now` a note, if no row of the file is for
-/// the vehicle type; `records` warnings of a file of hours, or all its faults; `mend` what it changed; and `hours` where a text
-/// is written loosely. If that output fails, a first part of this stands, and the answer is the same.
+/// the vehicle type; `records` warnings of a file of hours, or all its faults; `mend` what it changed; and `hours` warnings of
+/// its text. If that output fails, a first part of this stands, and the answer is the same.
 ///
 /// `Records` is the file's first fault, or why the input failed; `NoHours` is answered if no opening hours are found for a
 /// domain, and `NoDomain` if a text is no opening hours or the domain of these is too large. `Write` is answered exactly if the

@@ -14,7 +14,7 @@ pub returns-in-HoursOf-clause-read_faults : goal.returns-in-HoursOf-clause-read_
 returns-in-HoursOf-clause-read_faults g c = unread_text _ _ _ _ _ _ (of_hours _) _ c.print_hours_of.ensures.put
 
 pub returns-in-DomainOf-clause-read_faults : goal.returns-in-DomainOf-clause-read_faults
-returns-in-DomainOf-clause-read_faults g c = unread_hours _ _ _ _ _ _ _ _ _ c.print_hours_domain.ensures.ran
+returns-in-DomainOf-clause-read_faults g c = unread_hours _ _ _ _ _ _ _ _ c.print_hours_domain.ensures.ran
 
 pub returns-in-MendHours-clause-read_faults : goal.returns-in-MendHours-clause-read_faults
 returns-in-MendHours-clause-read_faults g c = unread_text _ _ _ _ _ _ (of_unread _ _ _) _ c.print_mended_hours.ensures.put

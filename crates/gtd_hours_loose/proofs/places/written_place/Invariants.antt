@@ -1,7 +1,7 @@
 -- The parts passed do not begin at the place, so it is searched for among the rest.
 use Rattle.std.proofs.Common.{◌≡◌, length}
 use Rattle.gtd_hours_loose.specs.Mending.{written_place}
-use Rattle.gtd_hours_loose.proofs.warnings.written_place.Given as goal
+use Rattle.gtd_hours_loose.proofs.places.written_place.Given as goal
 
 abbrev pub invariant-loop-part : goal.invariant-loop-part
 invariant-loop-part l = written_place l.place l.end l.rest ≡ written_place l.place l.end l.parts
