@@ -6,7 +6,7 @@ ghost use Rattle.gtd_conditional_elements.specs.Elements.{AreElementRows, AreRow
 
 use gtd_conditional_means::Means;
 use gtd_conditional_parts::Subject;
-use gtd_conditional_rows::{Row, RowsFault, Step, rows_of};
+use gtd_conditional_rows::{Row, RowsFault, rows_of};
 use gtd_conditional_steps::{StepsFault, Tag, steps_of};
 use gtd_records::Direction;
 use std::alloc::{AllocError, Global};

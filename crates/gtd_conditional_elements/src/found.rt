@@ -1,6 +1,6 @@
 //! The rows of elements, as they are found.
 
-ghost use Rattle.std.specs.Prelude.{◌≡◌, ◌++◌, ◌∷◌, [], List, Result, map, IfOk, OnOk};
+ghost use Rattle.std.specs.Prelude.{◌≡◌, ◌++◌, List, Result, map, IfOk, OnOk};
 ghost use Rattle.gtd_conditional_rows.specs.declared.row.Row.{Row};
 ghost use Rattle.gtd_conditional_elements.specs.Elements as spec;
 ghost use Rattle.gtd_conditional_elements.specs.declared.fault.ConditionsFault.{ConditionsFault};
