@@ -1,6 +1,5 @@
 -- What is accepted where a fault is.
 use Rattle.std.specs.Prelude.{ℕ, List, codes, Option, Some, None}
-use Rattle.gtd_conditional_elements.specs.declared.fault.ConditionsFault.{ConditionsFault}
 use Rattle.gtd_conditional_elements.specs.declared.fault.ConditionsFault.TheVariants as tags
 use Rattle.gtd_conditional_means.specs.declared.fault.MeansFault.{MeansFault}
 use Rattle.gtd_conditional_means.specs.declared.fault.MeansFault.TheVariants as means
@@ -8,7 +7,6 @@ use Rattle.gtd_conditional_parts.specs.declared.value.ValueFault.{ValueFault}
 use Rattle.gtd_conditional_parts.specs.declared.value.ValueFault.TheVariants as value
 use Rattle.gtd_conditional_tags.specs.declared.fault.TagsFault.{TagsFault}
 use Rattle.gtd_conditional_tags.specs.declared.fault.TagsFault.TheVariants as row
-use Rattle.gtd_conditional_values.specs.declared.term.TermFault.{TermFault}
 use Rattle.gtd_conditional_values.specs.declared.term.TermFault.TheVariants as term
 use Rattle.gtd_faults.specs.Expected.{accepted_bytes, accepted_element, accepted_rows}
 use Rattle.gtd_conditional_faults.specs.declared.fault.FileFault.{FileFault}

@@ -10,7 +10,6 @@ use Rattle.gtd_conditional_parts.specs.declared.value.ValueFault.{ValueFault}
 use Rattle.gtd_conditional_parts.specs.declared.value.ValueFault.TheVariants as value
 use Rattle.gtd_conditional_tags.specs.declared.fault.TagsFault.{TagsFault}
 use Rattle.gtd_conditional_tags.specs.declared.fault.TagsFault.TheVariants as row
-use Rattle.gtd_conditional_values.specs.declared.term.TermFault.{TermFault}
 use Rattle.gtd_conditional_values.specs.declared.term.TermFault.TheVariants as term
 use Rattle.gtd_conditional_faults.specs.declared.fault.FileFault.{FileFault}
 use Rattle.gtd_conditional_faults.specs.declared.fault.FileFault.TheVariants as fault

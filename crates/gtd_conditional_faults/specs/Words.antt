@@ -6,7 +6,6 @@ use Rattle.gtd_conditional_means.specs.FaultTexts as means
 use Rattle.gtd_conditional_parts.specs.declared.value.ValueFault.{ValueFault}
 use Rattle.gtd_conditional_parts.specs.declared.value.ValueFault.TheVariants as value
 use Rattle.gtd_conditional_tags.specs.FaultTexts as row
-use Rattle.gtd_conditional_values.specs.declared.term.TermFault.{TermFault}
 use Rattle.gtd_conditional_values.specs.declared.term.TermFault.TheVariants as term
 use Rattle.gtd_hours_grammar.specs.KindNames.{kind_name}
 use Rattle.gtd_conditional_faults.specs.Places.{place_of}

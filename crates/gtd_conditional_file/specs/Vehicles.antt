@@ -1,5 +1,5 @@
 -- The vehicle types of a row, as a record file names them.
-use Rattle.std.specs.Prelude.{◌≡◌, ◌↔◌, ⊤, ℕ, List}
+use Rattle.std.specs.Prelude.{◌↔◌, ⊤, ℕ, List}
 use Rattle.std.specs.List.{Contains}
 use Rattle.std.specs.List.Sorted.{IsStrictlyIncreasing}
 use Rattle.gtd_records.specs.Closing.{Serves}
