@@ -8,6 +8,7 @@ pub use paths::Paths;
 pub use run::run_conditions;
 pub use unconverted::Unconverted;
 
+pub mod laws;
 mod lists;
 mod paths;
 mod putting;
