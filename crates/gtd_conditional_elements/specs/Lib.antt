@@ -1,0 +1,6 @@
+pub mod Elements
+pub mod Faults
+pub mod File
+pub mod FileClosing
+pub mod Values
+pub use Rattle.gtd_core.specs.Limits

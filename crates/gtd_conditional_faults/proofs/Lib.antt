@@ -1,0 +1,2 @@
+-- Lemmas on lists of faults.
+pub mod ListFacts

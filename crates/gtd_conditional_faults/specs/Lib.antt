@@ -1,0 +1,4 @@
+pub mod Accepted
+pub mod Listing
+pub mod Places
+pub mod Words

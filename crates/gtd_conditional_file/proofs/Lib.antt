@@ -1,0 +1,5 @@
+-- Lemmas on when restrictions close, on the vehicle types of rows, on what is put of their lines, and on what a run did.
+pub mod CloseFacts
+pub mod NumberFacts
+pub mod PutFacts
+pub mod RunFacts

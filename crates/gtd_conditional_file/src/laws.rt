@@ -1,0 +1,24 @@
+//! Laws of the definitions: calls that do nothing, whose contracts are what is proved.
+
+ghost use Rattle.std.specs.Prelude.{◌↔◌, ℕ, ℤ, [], List};
+ghost use Rattle.gtd_conditional_elements.specs.File.{AreOfFile};
+ghost use Rattle.gtd_conditional_elements.specs.FileClosing.{TagsClose};
+ghost use Rattle.gtd_conditional_elements.specs.declared.found.ElementRow.{ElementRow};
+ghost use Rattle.gtd_conditional_file.specs.Records.{AreRestrictions};
+ghost use Rattle.gtd_conditional_means.specs.declared.meaning.MeansRow.{MeansRow};
+ghost use Rattle.gtd_conditional_rows.specs.Types.{IsVehicle};
+ghost use Rattle.gtd_records.specs.Closing.{IsClosed, Restriction};
+ghost use Rattle.gtd_records.specs.declared.direction.Direction.{Direction};
+
+use gtd_conditional_elements::laws::closes_as_the_tags_say;
+
+/// The restrictions that are put for a file of tags without a fault close an element in a direction for a vehicle type at a
+/// second, over all time, exactly if the tags of the element do, by what they say of access or of one-way traffic.
+pub fn restrictions_close_as_the_tags_say()
+    ensures closes { (table : List MeansRow) (bytes : List ℕ) (rows : List ElementRow) (found : List Restriction)
+        (file : AreOfFile table bytes rows []) → AreRestrictions rows found
+        → (element : ℕ) (direction : Direction) (t : ℕ) (s : ℤ) → IsVehicle t
+        → IsClosed found element direction t s ↔ TagsClose table element direction t s file.sound }
+{
+    closes_as_the_tags_say();
+}
