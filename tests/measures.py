@@ -13,6 +13,7 @@ import os
 import re
 import subprocess
 import sys
+import textwrap
 
 TOP = os.path.dirname(os.path.dirname(os.path.abspath(__file__)))
 DOCUMENT = os.path.join(TOP, "docs", "ARCHITECTURE.md")
@@ -121,17 +122,26 @@ def number_of(line):
     return int(line.rstrip().rstrip("|").rpartition("|")[2].replace(",", ""))
 
 
+def only_planted(others, kept):
+    """The paragraph that lists the crates with wrong bodies in `planted/` alone, the lowest first."""
+    crates = re.findall(r"^(\w+)[^:#]*:", text_of("crates.txt"), re.M)
+    items = ", ".join(f"`{crate}`\u00a0{others[crate]}" for crate in crates if others[crate] and not kept[crate])
+    lines = textwrap.wrap(f"Planted only: {items}.", 128, break_long_words=False, break_on_hyphens=False)
+    return "\n".join(lines).replace("\u00a0", " ")
+
+
 def planted_table(text):
-    """The text of docs/PLANTED.md with the numbers of wrong bodies as they are, and the crates that it does not list."""
+    """The text of docs/PLANTED.md with the numbers of wrong bodies as they are, and the crates of the gate that it does not list."""
     kept = collections.Counter(name.split("/")[1] for name in tracked("crates/*/must-fail/*.edit"))
     others = collections.Counter(name.split("/")[1] for name in tracked("planted/*/*.edit"))
     listed = re.findall(r"^\| `(\w+)` \| [\d,]+ \| [\d,]+ \|", text, re.M)
     text = re.sub(r"^\| `(\w+)` \| [\d,]+ \| [\d,]+ \|",
                   lambda row: f"| `{row[1]}` | {kept[row[1]]} | {others[row[1]]} |", text, flags=re.M)
+    text = re.sub(r"^Planted only: .*?\.$", lambda _: only_planted(others, kept), text, flags=re.M | re.S)
     for form, number in ((r"(\*\*Kept edits\.\*\* )\d+", kept.total() + others.total()),
                          (r"(named for its mistake: )\d+", kept.total()), (r"(The other )\d+( stand in)", others.total())):
         text = re.sub(form, lambda found: found[1] + str(number) + "".join(found.groups()[1:]), text, count=1)
-    return text, sorted(set(kept + others) - set(listed))
+    return text, sorted(set(kept) - set(listed))
 
 
 def compare_planted(write):
