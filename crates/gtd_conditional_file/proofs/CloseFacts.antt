@@ -1,5 +1,5 @@
 -- Restrictions close an element exactly if the rows do that they are of.
-use Rattle.std.proofs.Common.{◌≡◌, ◌∙◌, inl, inr, subst, sym, ℕ, List, [], ◌∷◌}
+use Rattle.std.proofs.Common.{◌∙◌, inl, inr, subst, sym, ℕ, List, [], ◌∷◌}
 use Rattle.std.specs.Prelude.{◌↔◌, ℤ, Any, Option, Some, None, option_map}
 use Rattle.gtd_core.specs.Parts.{domain_tree}
 use Rattle.gtd_core.specs.Trees.{Tree}

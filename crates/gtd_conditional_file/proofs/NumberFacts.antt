@@ -6,7 +6,7 @@ use Rattle.std.specs.List.{Contains}
 use Rattle.std.specs.List.Sorted.{IsStrictlyIncreasing}
 use Rattle.std.proofs.lemmas.Grind.{common_steps}
 use Rattle.std.proofs.lemmas.List.Elements.{Contains-append_left, Contains-get_or, Contains-push, Contains-push_cases}
-use Rattle.gtd_conditional_rows.specs.Types.{HasType, IsVehicle, has_type}
+use Rattle.gtd_conditional_rows.specs.Types.{HasType, has_type}
 use Rattle.gtd_conditional_rows.specs.declared.types.Types.{Types}
 use Rattle.gtd_conditional_file.specs.Vehicles.{AreNumbers}
 
