@@ -16,7 +16,7 @@ mod refused;
 
 pub use commands::{
     DiffPlan, DomainPicturePlan, FaultsPlan, HoursPlan, MendHoursPlan, NowPlan, NowView,
-    PicturePlan, PictureSubject, SamePlan, WordsPlan, ZonePlan,
+    PicturePlan, PictureSubject, RecordsPlan, SamePlan, WordsPlan, ZonePlan,
 };
 pub use planner::plan;
 pub use plans::{Files, OnePlan, Plan};

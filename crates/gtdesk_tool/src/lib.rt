@@ -28,7 +28,7 @@ pub use ending::{Ending, joined};
 pub use gtd_zones::zone_path;
 pub use gtdesk_plans::{
     DiffPlan, DomainPicturePlan, FaultsPlan, Files, HoursPlan, LineRefusal, MendHoursPlan, NowPlan,
-    NowView, OnePlan, PicturePlan, PictureSubject, Plan, SamePlan, ZonePlan, plan,
+    NowView, OnePlan, PicturePlan, PictureSubject, Plan, RecordsPlan, SamePlan, ZonePlan, plan,
 };
 pub use gtdesk_words::{Moment, NoDomain, Reason, WordFault, WordName, WordsRefusal};
 pub use line::RefusalLines;
