@@ -90,7 +90,8 @@ less_room few many le room = record {
   rules = λ n small. room.rules n (omega (arith, le, small));
 }
 
-module _ (room : HasRoom (20 * most_file_bytes + 4)) (texts : HasVectors ℕ most_file_bytes) (each_text : (text : List ℕ) → HasRoom (20 * length text + 4)
+module _ (room : HasRoom (20 * most_file_bytes + 4)) (texts : HasVectors ℕ most_file_bytes)
+    (each_text : (text : List ℕ) → HasRoom (20 * length text + 4)
     → ((hours : Hours) × StandsFor text hours) ⊎ ((bad : HoursFault) × IsFirstFault text bad)) where
   -- ---- a row
 
@@ -230,5 +231,6 @@ module _ (room : HasRoom (20 * most_file_bytes + 4)) (texts : HasVectors ℕ mos
   by_faults bytes sound [] are = (Ok sound, are)
   by_faults bytes sound (why ∷ faults) are = (Err (why ∷ faults), (sound, are, λ e. cc))
 
-  pub each_file : (bytes : List ℕ) → (answer : Result (List HoursRow) (List HoursFileFault)) × IsHoursFile manner.Strict bytes answer
+  pub each_file : (bytes : List ℕ)
+      → (answer : Result (List HoursRow) (List HoursFileFault)) × IsHoursFile manner.Strict bytes answer
   each_file bytes = let s = each_bytes bytes in by_faults bytes s.sound s.faults s.are

@@ -104,193 +104,193 @@ module _ (how : Manner)
     (one_cost : (text : List ℕ) (one other : LooseHours) → IsReadingIn how text one → IsReadingIn how text other
     → hours_cost one.hours ≡ hours_cost other.hours)
     (one_fault : (text : List ℕ) (one other : LooseFault) → IsFaultIn how text one → IsFaultIn how text other → one ≡ other)
-    (apart : (text : List ℕ) (read : LooseHours) (bad : LooseFault) → IsReadingIn how text read → IsFaultIn how text bad → ⊥)
-  where
-    same_fault : (row : ℕ) (text : List ℕ) (v w : HoursFileFault) → IsHoursFault how row text v → IsHoursFault how row text w
-        → v ≡ w
-    same_fault row text fault.TooLarge w p q = absurd p
-    same_fault row text fault.Header w p q = absurd p
-    same_fault row text (fault.FieldCount i) w p q = absurd p
-    same_fault row text (fault.Element i) w p q = absurd p
-    same_fault row text (fault.Direction i) w p q = absurd p
-    same_fault row text (fault.Vehicle i) w p q = absurd p
-    same_fault row text fault.TooManyRows w p q = absurd p
-    same_fault row text (fault.Hours i x) fault.TooLarge p q = absurd q
-    same_fault row text (fault.Hours i x) fault.Header p q = absurd q
-    same_fault row text (fault.Hours i x) (fault.FieldCount j) p q = absurd q
-    same_fault row text (fault.Hours i x) (fault.Element j) p q = absurd q
-    same_fault row text (fault.Hours i x) (fault.Direction j) p q = absurd q
-    same_fault row text (fault.Hours i x) (fault.Vehicle j) p q = absurd q
-    same_fault row text (fault.Hours i x) fault.TooManyRows p q = absurd q
-    same_fault row text (fault.Ambiguous i m) fault.TooLarge p q = absurd q
-    same_fault row text (fault.Ambiguous i m) fault.Header p q = absurd q
-    same_fault row text (fault.Ambiguous i m) (fault.FieldCount j) p q = absurd q
-    same_fault row text (fault.Ambiguous i m) (fault.Element j) p q = absurd q
-    same_fault row text (fault.Ambiguous i m) (fault.Direction j) p q = absurd q
-    same_fault row text (fault.Ambiguous i m) (fault.Vehicle j) p q = absurd q
-    same_fault row text (fault.Ambiguous i m) fault.TooManyRows p q = absurd q
-    same_fault row text (fault.TooMany i) fault.TooLarge p q = absurd q
-    same_fault row text (fault.TooMany i) fault.Header p q = absurd q
-    same_fault row text (fault.TooMany i) (fault.FieldCount j) p q = absurd q
-    same_fault row text (fault.TooMany i) (fault.Element j) p q = absurd q
-    same_fault row text (fault.TooMany i) (fault.Direction j) p q = absurd q
-    same_fault row text (fault.TooMany i) (fault.Vehicle j) p q = absurd q
-    same_fault row text (fault.TooMany i) fault.TooManyRows p q = absurd q
-    same_fault row text (fault.Hours i x) (fault.Hours j y) p q =
-        ap (λ (n : ℕ). fault.Hours n x) (p.0 ∙ sym q.0)
-        ∙ ap (λ (f : HoursFault). fault.Hours j f) (hours_is x y (one_fault text (loose.Hours x) (loose.Hours y) p.1 q.1))
-    same_fault row text (fault.Hours i x) (fault.Ambiguous j n) p q =
-        absurd (apart_faults x n (one_fault text (loose.Hours x) (loose.Ambiguous n) p.1 q.1))
-    same_fault row text (fault.Ambiguous i m) (fault.Hours j y) p q =
-        absurd (apart_faults y m (one_fault text (loose.Hours y) (loose.Ambiguous m) q.1 p.1))
-    same_fault row text (fault.Ambiguous i m) (fault.Ambiguous j n) p q =
-        ap (λ (k : ℕ). fault.Ambiguous k m) (p.0 ∙ sym q.0)
-        ∙ ap (λ (k : ℕ). fault.Ambiguous j k) (place_is m n (one_fault text (loose.Ambiguous m) (loose.Ambiguous n) p.1 q.1))
-    same_fault row text (fault.Hours i x) (fault.TooMany j) p q = absurd (apart text q.1 (loose.Hours x) q.2 p.1)
-    same_fault row text (fault.TooMany i) (fault.Hours j y) p q = absurd (apart text p.1 (loose.Hours y) p.2 q.1)
-    same_fault row text (fault.Ambiguous i m) (fault.TooMany j) p q = absurd (apart text q.1 (loose.Ambiguous m) q.2 p.1)
-    same_fault row text (fault.TooMany i) (fault.Ambiguous j n) p q = absurd (apart text p.1 (loose.Ambiguous n) p.2 q.1)
-    same_fault row text (fault.TooMany i) (fault.TooMany j) p q = ap (λ (n : ℕ). fault.TooMany n) (p.0 ∙ sym q.0)
+    (apart : (text : List ℕ) (read : LooseHours) (bad : LooseFault) → IsReadingIn how text read → IsFaultIn how text bad
+    → ⊥) where
+  same_fault : (row : ℕ) (text : List ℕ) (v w : HoursFileFault) → IsHoursFault how row text v → IsHoursFault how row text w
+      → v ≡ w
+  same_fault row text fault.TooLarge w p q = absurd p
+  same_fault row text fault.Header w p q = absurd p
+  same_fault row text (fault.FieldCount i) w p q = absurd p
+  same_fault row text (fault.Element i) w p q = absurd p
+  same_fault row text (fault.Direction i) w p q = absurd p
+  same_fault row text (fault.Vehicle i) w p q = absurd p
+  same_fault row text fault.TooManyRows w p q = absurd p
+  same_fault row text (fault.Hours i x) fault.TooLarge p q = absurd q
+  same_fault row text (fault.Hours i x) fault.Header p q = absurd q
+  same_fault row text (fault.Hours i x) (fault.FieldCount j) p q = absurd q
+  same_fault row text (fault.Hours i x) (fault.Element j) p q = absurd q
+  same_fault row text (fault.Hours i x) (fault.Direction j) p q = absurd q
+  same_fault row text (fault.Hours i x) (fault.Vehicle j) p q = absurd q
+  same_fault row text (fault.Hours i x) fault.TooManyRows p q = absurd q
+  same_fault row text (fault.Ambiguous i m) fault.TooLarge p q = absurd q
+  same_fault row text (fault.Ambiguous i m) fault.Header p q = absurd q
+  same_fault row text (fault.Ambiguous i m) (fault.FieldCount j) p q = absurd q
+  same_fault row text (fault.Ambiguous i m) (fault.Element j) p q = absurd q
+  same_fault row text (fault.Ambiguous i m) (fault.Direction j) p q = absurd q
+  same_fault row text (fault.Ambiguous i m) (fault.Vehicle j) p q = absurd q
+  same_fault row text (fault.Ambiguous i m) fault.TooManyRows p q = absurd q
+  same_fault row text (fault.TooMany i) fault.TooLarge p q = absurd q
+  same_fault row text (fault.TooMany i) fault.Header p q = absurd q
+  same_fault row text (fault.TooMany i) (fault.FieldCount j) p q = absurd q
+  same_fault row text (fault.TooMany i) (fault.Element j) p q = absurd q
+  same_fault row text (fault.TooMany i) (fault.Direction j) p q = absurd q
+  same_fault row text (fault.TooMany i) (fault.Vehicle j) p q = absurd q
+  same_fault row text (fault.TooMany i) fault.TooManyRows p q = absurd q
+  same_fault row text (fault.Hours i x) (fault.Hours j y) p q =
+      ap (λ (n : ℕ). fault.Hours n x) (p.0 ∙ sym q.0)
+      ∙ ap (λ (f : HoursFault). fault.Hours j f) (hours_is x y (one_fault text (loose.Hours x) (loose.Hours y) p.1 q.1))
+  same_fault row text (fault.Hours i x) (fault.Ambiguous j n) p q =
+      absurd (apart_faults x n (one_fault text (loose.Hours x) (loose.Ambiguous n) p.1 q.1))
+  same_fault row text (fault.Ambiguous i m) (fault.Hours j y) p q =
+      absurd (apart_faults y m (one_fault text (loose.Hours y) (loose.Ambiguous m) q.1 p.1))
+  same_fault row text (fault.Ambiguous i m) (fault.Ambiguous j n) p q =
+      ap (λ (k : ℕ). fault.Ambiguous k m) (p.0 ∙ sym q.0)
+      ∙ ap (λ (k : ℕ). fault.Ambiguous j k) (place_is m n (one_fault text (loose.Ambiguous m) (loose.Ambiguous n) p.1 q.1))
+  same_fault row text (fault.Hours i x) (fault.TooMany j) p q = absurd (apart text q.1 (loose.Hours x) q.2 p.1)
+  same_fault row text (fault.TooMany i) (fault.Hours j y) p q = absurd (apart text p.1 (loose.Hours y) p.2 q.1)
+  same_fault row text (fault.Ambiguous i m) (fault.TooMany j) p q = absurd (apart text q.1 (loose.Ambiguous m) q.2 p.1)
+  same_fault row text (fault.TooMany i) (fault.Ambiguous j n) p q = absurd (apart text p.1 (loose.Ambiguous n) p.2 q.1)
+  same_fault row text (fault.TooMany i) (fault.TooMany j) p q = ap (λ (n : ℕ). fault.TooMany n) (p.0 ∙ sym q.0)
 
-    not_faulty : (row : ℕ) (text : List ℕ) (given : RowHours) (w : HoursFileFault) → IsHoursOf how text given
-        → IsHoursFault how row text w → ⊥
-    not_faulty row text given fault.TooLarge is q = q
-    not_faulty row text given fault.Header is q = q
-    not_faulty row text given (fault.FieldCount i) is q = q
-    not_faulty row text given (fault.Element i) is q = q
-    not_faulty row text given (fault.Direction i) is q = q
-    not_faulty row text given (fault.Vehicle i) is q = q
-    not_faulty row text given fault.TooManyRows is q = q
-    not_faulty row text given (fault.Hours j y) is q = apart text given.read (loose.Hours y) is.reads q.1
-    not_faulty row text given (fault.Ambiguous j n) is q = apart text given.read (loose.Ambiguous n) is.reads q.1
-    not_faulty row text given (fault.TooMany j) is q =
-        let same = one_cost text given.read q.1 is.reads q.2 in
-        let many = q.3 in let few = is.few in omega (arith, same, many, few)
+  not_faulty : (row : ℕ) (text : List ℕ) (given : RowHours) (w : HoursFileFault) → IsHoursOf how text given
+      → IsHoursFault how row text w → ⊥
+  not_faulty row text given fault.TooLarge is q = q
+  not_faulty row text given fault.Header is q = q
+  not_faulty row text given (fault.FieldCount i) is q = q
+  not_faulty row text given (fault.Element i) is q = q
+  not_faulty row text given (fault.Direction i) is q = q
+  not_faulty row text given (fault.Vehicle i) is q = q
+  not_faulty row text given fault.TooManyRows is q = q
+  not_faulty row text given (fault.Hours j y) is q = apart text given.read (loose.Hours y) is.reads q.1
+  not_faulty row text given (fault.Ambiguous j n) is q = apart text given.read (loose.Ambiguous n) is.reads q.1
+  not_faulty row text given (fault.TooMany j) is q =
+      let same = one_cost text given.read q.1 is.reads q.2 in
+      let many = q.3 in let few = is.few in omega (arith, same, many, few)
 
-    same_column : (row : ℕ) (text : List ℕ) (a b : Result (Option RowHours) HoursFileFault) → IsHoursColumn how row text a
-        → IsHoursColumn how row text b → SameColumn a b
-    same_column row [] a b p q = between SameColumn a b (Ok None) (Ok None) p q tt
-    same_column row (c ∷ text) (Ok None) b p q = absurd p
-    same_column row (c ∷ text) (Ok (Some x)) (Ok None) p q = absurd q
-    same_column row (c ∷ text) (Ok (Some x)) (Ok (Some y)) p q = one_open (c ∷ text) x.read y.read p.reads q.reads
-    same_column row (c ∷ text) (Ok (Some x)) (Err w) p q = absurd (not_faulty row (c ∷ text) x w p q)
-    same_column row (c ∷ text) (Err v) (Ok None) p q = absurd q
-    same_column row (c ∷ text) (Err v) (Ok (Some y)) p q = absurd (not_faulty row (c ∷ text) y v q p)
-    same_column row (c ∷ text) (Err v) (Err w) p q = same_fault row (c ∷ text) v w p q
+  same_column : (row : ℕ) (text : List ℕ) (a b : Result (Option RowHours) HoursFileFault) → IsHoursColumn how row text a
+      → IsHoursColumn how row text b → SameColumn a b
+  same_column row [] a b p q = between SameColumn a b (Ok None) (Ok None) p q tt
+  same_column row (c ∷ text) (Ok None) b p q = absurd p
+  same_column row (c ∷ text) (Ok (Some x)) (Ok None) p q = absurd q
+  same_column row (c ∷ text) (Ok (Some x)) (Ok (Some y)) p q = one_open (c ∷ text) x.read y.read p.reads q.reads
+  same_column row (c ∷ text) (Ok (Some x)) (Err w) p q = absurd (not_faulty row (c ∷ text) x w p q)
+  same_column row (c ∷ text) (Err v) (Ok None) p q = absurd q
+  same_column row (c ∷ text) (Err v) (Ok (Some y)) p q = absurd (not_faulty row (c ∷ text) y v q p)
+  same_column row (c ∷ text) (Err v) (Err w) p q = same_fault row (c ∷ text) v w p q
 
-    abbrev Read : ℕ → ℕ → Closed → List ℕ → Vehicles → Result HoursRow HoursFileFault → Type 0
-    Read row x c hours named r =
-        (types : Vehicles) × (read : Result (Option RowHours) HoursFileFault)
-        × IsOrdered named types × IsHoursColumn how row hours read × (r ≡ with_hours x c types read)
+  abbrev Read : ℕ → ℕ → Closed → List ℕ → Vehicles → Result HoursRow HoursFileFault → Type 0
+  Read row x c hours named r =
+      (types : Vehicles) × (read : Result (Option RowHours) HoursFileFault)
+      × IsOrdered named types × IsHoursColumn how row hours read × (r ≡ with_hours x c types read)
 
-    same_read : (row x : ℕ) (c : Closed) (hours : List ℕ) (named : Vehicles) (a b : Result HoursRow HoursFileFault)
-        → Read row x c hours named a → Read row x c hours named b → SameOfRow a b
-    same_read row x c hours named a b p q =
-        between SameOfRow a b (with_hours x c q.0 p.1) (with_hours x c q.0 q.1)
-        (p.4 ∙ ap (λ (t : Vehicles). with_hours x c t p.1) (one_ordered named p.0 q.0 p.2 q.2)) q.4
-        (same_with x c q.0 p.1 q.1 (same_column row hours p.1 q.1 p.3 q.3))
+  same_read : (row x : ℕ) (c : Closed) (hours : List ℕ) (named : Vehicles) (a b : Result HoursRow HoursFileFault)
+      → Read row x c hours named a → Read row x c hours named b → SameOfRow a b
+  same_read row x c hours named a b p q =
+      between SameOfRow a b (with_hours x c q.0 p.1) (with_hours x c q.0 q.1)
+      (p.4 ∙ ap (λ (t : Vehicles). with_hours x c t p.1) (one_ordered named p.0 q.0 p.2 q.2)) q.4
+      (same_with x c q.0 p.1 q.1 (same_column row hours p.1 q.1 p.3 q.3))
 
-    same_full_row : (row : ℕ) (element closed vehicles hours : List ℕ) (a b : Result HoursRow HoursFileFault)
-        → IsFullRow how row element closed vehicles hours a → IsFullRow how row element closed vehicles hours b → SameOfRow a b
-    same_full_row row element closed vehicles hours a b p q =
-        agree SameOfRow (number_of element) (Err (fault.Element row)) (λ x r.
-        MatchOption (closed_of closed) (r ≡ Err (fault.Direction row)) (λ c.
-        MatchOption (vehicles_of version.Two vehicles) (r ≡ Err (fault.Vehicle row)) (λ named. Read row x c hours named r))) refl
-        (λ x. agree SameOfRow (closed_of closed) (Err (fault.Direction row)) (λ c r.
-        MatchOption (vehicles_of version.Two vehicles) (r ≡ Err (fault.Vehicle row)) (λ named. Read row x c hours named r)) refl
-        (λ c. agree SameOfRow (vehicles_of version.Two vehicles) (Err (fault.Vehicle row)) (λ named r. Read row x c hours named r)
-        refl (λ named r s f g. same_read row x c hours named r s f g)))
-        a b p q
+  same_full_row : (row : ℕ) (element closed vehicles hours : List ℕ) (a b : Result HoursRow HoursFileFault)
+      → IsFullRow how row element closed vehicles hours a → IsFullRow how row element closed vehicles hours b → SameOfRow a b
+  same_full_row row element closed vehicles hours a b p q =
+      agree SameOfRow (number_of element) (Err (fault.Element row)) (λ x r.
+      MatchOption (closed_of closed) (r ≡ Err (fault.Direction row)) (λ c.
+      MatchOption (vehicles_of version.Two vehicles) (r ≡ Err (fault.Vehicle row)) (λ named. Read row x c hours named r))) refl
+      (λ x. agree SameOfRow (closed_of closed) (Err (fault.Direction row)) (λ c r.
+      MatchOption (vehicles_of version.Two vehicles) (r ≡ Err (fault.Vehicle row)) (λ named. Read row x c hours named r)) refl
+      (λ c. agree SameOfRow (vehicles_of version.Two vehicles) (Err (fault.Vehicle row)) (λ named r. Read row x c hours named r)
+      refl (λ named r s f g. same_read row x c hours named r s f g)))
+      a b p q
 
-    same_count_fault : (row : ℕ) (a b : Result HoursRow HoursFileFault) → a ≡ Err (fault.FieldCount row)
-        → b ≡ Err (fault.FieldCount row) → SameOfRow a b
-    same_count_fault row a b p q = between SameOfRow a b (Err (fault.FieldCount row)) (Err (fault.FieldCount row)) p q refl
+  same_count_fault : (row : ℕ) (a b : Result HoursRow HoursFileFault) → a ≡ Err (fault.FieldCount row)
+      → b ≡ Err (fault.FieldCount row) → SameOfRow a b
+  same_count_fault row a b p q = between SameOfRow a b (Err (fault.FieldCount row)) (Err (fault.FieldCount row)) p q refl
 
-    same_row : (row : ℕ) (fields : Fields) (a b : Result HoursRow HoursFileFault) → IsRow how row fields a → IsRow how row fields b
-        → SameOfRow a b
-    same_row row [] a b p q = same_count_fault row a b p q
-    same_row row (c ∷ []) a b p q = same_count_fault row a b p q
-    same_row row (c ∷ d ∷ []) a b p q = same_count_fault row a b p q
-    same_row row (c ∷ d ∷ e ∷ []) a b p q = same_count_fault row a b p q
-    same_row row (c ∷ d ∷ e ∷ f ∷ []) a b p q = same_full_row row c d e f a b p q
-    same_row row (c ∷ d ∷ e ∷ f ∷ g ∷ more) a b p q = same_count_fault row a b p q
+  same_row : (row : ℕ) (fields : Fields) (a b : Result HoursRow HoursFileFault) → IsRow how row fields a
+      → IsRow how row fields b → SameOfRow a b
+  same_row row [] a b p q = same_count_fault row a b p q
+  same_row row (c ∷ []) a b p q = same_count_fault row a b p q
+  same_row row (c ∷ d ∷ []) a b p q = same_count_fault row a b p q
+  same_row row (c ∷ d ∷ e ∷ []) a b p q = same_count_fault row a b p q
+  same_row row (c ∷ d ∷ e ∷ f ∷ []) a b p q = same_full_row row c d e f a b p q
+  same_row row (c ∷ d ∷ e ∷ f ∷ g ∷ more) a b p q = same_count_fault row a b p q
 
-    -- ---- answers for a file
+  -- ---- answers for a file
 
-    abbrev Same : List HoursRow → List HoursRow → List HoursFileFault → List HoursFileFault → Type 0
-    Same sound also faults others = AreSameRows sound also × (faults ≡ others)
+  abbrev Same : List HoursRow → List HoursRow → List HoursFileFault → List HoursFileFault → Type 0
+  Same sound also faults others = AreSameRows sound also × (faults ≡ others)
 
-    same_more : (a b : Result HoursRow HoursFileFault) (more rest : List HoursRow) (others left : List HoursFileFault)
-        → SameOfRow a b → Same more rest others left
-        → Same (sound_of a ++ more) (sound_of b ++ rest) (faults_of a ++ others) (faults_of b ++ left)
-    same_more (Ok x) (Ok y) more rest others left first same = ((first, same.0), same.1)
-    same_more (Ok x) (Err w) more rest others left first same = absurd first
-    same_more (Err v) (Ok y) more rest others left first same = absurd first
-    same_more (Err v) (Err w) more rest others left first same =
-        (same.0, ap (λ (f : HoursFileFault). f ∷ others) first ∙ ap (λ (l : List HoursFileFault). w ∷ l) same.1)
+  same_more : (a b : Result HoursRow HoursFileFault) (more rest : List HoursRow) (others left : List HoursFileFault)
+      → SameOfRow a b → Same more rest others left
+      → Same (sound_of a ++ more) (sound_of b ++ rest) (faults_of a ++ others) (faults_of b ++ left)
+  same_more (Ok x) (Ok y) more rest others left first same = ((first, same.0), same.1)
+  same_more (Ok x) (Err w) more rest others left first same = absurd first
+  same_more (Err v) (Ok y) more rest others left first same = absurd first
+  same_more (Err v) (Err w) more rest others left first same =
+      (same.0, ap (λ (f : HoursFileFault). f ∷ others) first ∙ ap (λ (l : List HoursFileFault). w ∷ l) same.1)
 
-    -- equal lists in place of them
-    same_by : (s t sound also : List HoursRow) (f g faults others : List HoursFileFault) → sound ≡ s → also ≡ t → faults ≡ f
-        → others ≡ g → Same s t f g → Same sound also faults others
-    same_by s t sound also f g faults others a b c d same =
-        (between AreSameRows sound also s t a b same.0, c ∙ same.1 ∙ sym d)
+  -- equal lists in place of them
+  same_by : (s t sound also : List HoursRow) (f g faults others : List HoursFileFault) → sound ≡ s → also ≡ t → faults ≡ f
+      → others ≡ g → Same s t f g → Same sound also faults others
+  same_by s t sound also f g faults others a b c d same =
+      (between AreSameRows sound also s t a b same.0, c ∙ same.1 ∙ sym d)
 
-    same_each : (number : ℕ) (rows : List Fields) (sound also : List HoursRow) (faults others : List HoursFileFault)
-        → AreEach how number rows sound faults → AreEach how number rows also others → Same sound also faults others
-    same_each number [] sound also faults others p q = same_by [] [] sound also [] [] faults others p.0 q.0 p.1 q.1 (tt, refl)
-    same_each number (row ∷ rows) sound also faults others p q =
-        same_by (sound_of p.0 ++ p.1) (sound_of q.0 ++ q.1) sound also (faults_of p.0 ++ p.2) (faults_of q.0 ++ q.2) faults others
-        p.5 q.5 p.6 q.6
-        (same_more p.0 q.0 p.1 q.1 p.2 q.2 (same_row number row p.0 q.0 p.3 q.3)
-        (same_each (number + 1) rows p.1 q.1 p.2 q.2 p.4 q.4))
+  same_each : (number : ℕ) (rows : List Fields) (sound also : List HoursRow) (faults others : List HoursFileFault)
+      → AreEach how number rows sound faults → AreEach how number rows also others → Same sound also faults others
+  same_each number [] sound also faults others p q = same_by [] [] sound also [] [] faults others p.0 q.0 p.1 q.1 (tt, refl)
+  same_each number (row ∷ rows) sound also faults others p q =
+      same_by (sound_of p.0 ++ p.1) (sound_of q.0 ++ q.1) sound also (faults_of p.0 ++ p.2) (faults_of q.0 ++ q.2) faults others
+      p.5 q.5 p.6 q.6
+      (same_more p.0 q.0 p.1 q.1 p.2 q.2 (same_row number row p.0 q.0 p.3 q.3)
+      (same_each (number + 1) rows p.1 q.1 p.2 q.2 p.4 q.4))
 
-    same_too_many : (rows : List Fields) (sound also : List HoursRow) (faults others : List HoursFileFault)
-        → AreTooMany how rows sound faults → AreTooMany how rows also others → Same sound also faults others
-    same_too_many rows sound also faults others p q =
-        let front = one_front p.before q.before p.row q.row p.after q.after (p.many ∙ sym q.many) (sym p.split ∙ q.split) in
-        let same = same_each 1 q.before sound also p.listed q.listed
-        (subst (λ (l : List Fields). AreEach how 1 l sound p.listed) front p.each) q.each in
-        (same.0, p.whole ∙ ap (λ (l : List HoursFileFault). l ++ (fault.TooManyRows ∷ [])) same.1 ∙ sym q.whole)
+  same_too_many : (rows : List Fields) (sound also : List HoursRow) (faults others : List HoursFileFault)
+      → AreTooMany how rows sound faults → AreTooMany how rows also others → Same sound also faults others
+  same_too_many rows sound also faults others p q =
+      let front = one_front p.before q.before p.row q.row p.after q.after (p.many ∙ sym q.many) (sym p.split ∙ q.split) in
+      let same = same_each 1 q.before sound also p.listed q.listed
+      (subst (λ (l : List Fields). AreEach how 1 l sound p.listed) front p.each) q.each in
+      (same.0, p.whole ∙ ap (λ (l : List HoursFileFault). l ++ (fault.TooManyRows ∷ [])) same.1 ∙ sym q.whole)
 
-    not_few : (rows : List Fields) (sound : List HoursRow) (faults : List HoursFileFault) → length rows ≤ most_rows
-        → AreTooMany how rows sound faults → ⊥
-    not_few rows sound faults few p =
-        let long = ap length p.split ∙ length-append p.before (p.row ∷ p.after) in
-        let many = p.many in omega (arith, long, many, few)
+  not_few : (rows : List Fields) (sound : List HoursRow) (faults : List HoursFileFault) → length rows ≤ most_rows
+      → AreTooMany how rows sound faults → ⊥
+  not_few rows sound faults few p =
+      let long = ap length p.split ∙ length-append p.before (p.row ∷ p.after) in
+      let many = p.many in omega (arith, long, many, few)
 
-    same_rows : (rows : List Fields) (sound also : List HoursRow) (faults others : List HoursFileFault)
-        → AreRows how rows sound faults → AreRows how rows also others → Same sound also faults others
-    same_rows rows sound also faults others (inl p) (inl q) = same_each 1 rows sound also faults others p.1 q.1
-    same_rows rows sound also faults others (inl p) (inr q) = absurd (not_few rows also others p.0 q)
-    same_rows rows sound also faults others (inr p) (inl q) = absurd (not_few rows sound faults q.0 p)
-    same_rows rows sound also faults others (inr p) (inr q) = same_too_many rows sound also faults others p q
+  same_rows : (rows : List Fields) (sound also : List HoursRow) (faults others : List HoursFileFault)
+      → AreRows how rows sound faults → AreRows how rows also others → Same sound also faults others
+  same_rows rows sound also faults others (inl p) (inl q) = same_each 1 rows sound also faults others p.1 q.1
+  same_rows rows sound also faults others (inl p) (inr q) = absurd (not_few rows also others p.0 q)
+  same_rows rows sound also faults others (inr p) (inl q) = absurd (not_few rows sound faults q.0 p)
+  same_rows rows sound also faults others (inr p) (inr q) = same_too_many rows sound also faults others p q
 
-    same_table : (text : List Fields) (sound also : List HoursRow) (faults others : List HoursFileFault)
-        → AreTable how text sound faults → AreTable how text also others → Same sound also faults others
-    same_table text sound also faults others (inl p) (inl q) =
-        let rows = tail_is header header p.0 q.0 (sym p.1 ∙ q.1) in
-        same_rows q.0 sound also faults others (subst (λ (l : List Fields). AreRows how l sound faults) rows p.2) q.2
-    same_table text sound also faults others (inl p) (inr q) = absurd (q.0 p.0 p.1)
-    same_table text sound also faults others (inr p) (inl q) = absurd (p.0 q.0 q.1)
-    same_table text sound also faults others (inr p) (inr q) =
-        same_by [] [] sound also (fault.Header ∷ []) (fault.Header ∷ []) faults others p.1 q.1 p.2 q.2 (tt, refl)
+  same_table : (text : List Fields) (sound also : List HoursRow) (faults others : List HoursFileFault)
+      → AreTable how text sound faults → AreTable how text also others → Same sound also faults others
+  same_table text sound also faults others (inl p) (inl q) =
+      let rows = tail_is header header p.0 q.0 (sym p.1 ∙ q.1) in
+      same_rows q.0 sound also faults others (subst (λ (l : List Fields). AreRows how l sound faults) rows p.2) q.2
+  same_table text sound also faults others (inl p) (inr q) = absurd (q.0 p.0 p.1)
+  same_table text sound also faults others (inr p) (inl q) = absurd (p.0 q.0 q.1)
+  same_table text sound also faults others (inr p) (inr q) =
+      same_by [] [] sound also (fault.Header ∷ []) (fault.Header ∷ []) faults others p.1 q.1 p.2 q.2 (tt, refl)
 
-    same_of_file : (bytes : List ℕ) (sound also : List HoursRow) (faults others : List HoursFileFault)
-        → AreOfFile how bytes sound faults → AreOfFile how bytes also others → Same sound also faults others
-    same_of_file bytes sound also faults others (inl p) (inl q) =
-        same_table (records default_config (strip_bom bytes)) sound also faults others p.1 q.1
-    same_of_file bytes sound also faults others (inl p) (inr q) = let l = p.0 in let h = q.0 in absurd (omega arith)
-    same_of_file bytes sound also faults others (inr p) (inl q) = let l = p.0 in let h = q.0 in absurd (omega arith)
-    same_of_file bytes sound also faults others (inr p) (inr q) =
-        same_by [] [] sound also (fault.TooLarge ∷ []) (fault.TooLarge ∷ []) faults others p.1 q.1 p.2 q.2 (tt, refl)
+  same_of_file : (bytes : List ℕ) (sound also : List HoursRow) (faults others : List HoursFileFault)
+      → AreOfFile how bytes sound faults → AreOfFile how bytes also others → Same sound also faults others
+  same_of_file bytes sound also faults others (inl p) (inl q) =
+      same_table (records default_config (strip_bom bytes)) sound also faults others p.1 q.1
+  same_of_file bytes sound also faults others (inl p) (inr q) = let l = p.0 in let h = q.0 in absurd (omega arith)
+  same_of_file bytes sound also faults others (inr p) (inl q) = let l = p.0 in let h = q.0 in absurd (omega arith)
+  same_of_file bytes sound also faults others (inr p) (inr q) =
+      same_by [] [] sound also (fault.TooLarge ∷ []) (fault.TooLarge ∷ []) faults others p.1 q.1 p.2 q.2 (tt, refl)
 
-    -- the bytes of a file have one answer
-    pub one_answer : (bytes : List ℕ) (a b : Result (List HoursRow) (List HoursFileFault)) → IsHoursFile how bytes a
-        → IsHoursFile how bytes b → IsSameAnswer a b
-    one_answer bytes (Ok rows) (Ok also) p q = (same_of_file bytes rows also [] [] p q).0
-    one_answer bytes (Ok rows) (Err w) p q = absurd (q.2 (sym (same_of_file bytes rows q.0 [] w p q.1).1))
-    one_answer bytes (Err v) (Ok also) p q = absurd (p.2 (same_of_file bytes p.0 also v [] p.1 q).1)
-    one_answer bytes (Err v) (Err w) p q = (same_of_file bytes p.0 q.0 v w p.1 q.1).1
+  -- the bytes of a file have one answer
+  pub one_answer : (bytes : List ℕ) (a b : Result (List HoursRow) (List HoursFileFault)) → IsHoursFile how bytes a
+      → IsHoursFile how bytes b → IsSameAnswer a b
+  one_answer bytes (Ok rows) (Ok also) p q = (same_of_file bytes rows also [] [] p q).0
+  one_answer bytes (Ok rows) (Err w) p q = absurd (q.2 (sym (same_of_file bytes rows q.0 [] w p q.1).1))
+  one_answer bytes (Err v) (Ok also) p q = absurd (p.2 (same_of_file bytes p.0 also v [] p.1 q).1)
+  one_answer bytes (Err v) (Err w) p q = (same_of_file bytes p.0 q.0 v w p.1 q.1).1
 
 -- ---- what the rows are translated to
 

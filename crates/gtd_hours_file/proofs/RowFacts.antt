@@ -48,7 +48,8 @@ column_stops how row (b ∷ text) (stop.Fault why) some is = is
 column_stops how row (b ∷ text) stop.NoMemory some is = tt
 
 -- a row whose third column names no types
-pub no_types : (how : Manner) (row : ℕ) (fields : Fields) (a b c d : List ℕ) (element : ℕ) (closed : Closed) (read : Option Vehicles)
+pub no_types : (how : Manner) (row : ℕ) (fields : Fields) (a b c d : List ℕ) (element : ℕ) (closed : Closed)
+    (read : Option Vehicles)
     → fields ≡ a ∷ b ∷ c ∷ d ∷ [] → number_of a ≡ Some element → closed_of b ≡ Some closed
     → AreTypesRead (vehicles_of version.Two c) read → ((types : Vehicles) → read ≡ Some types → ⊥)
     → IsRow how row fields (Err (fault.Vehicle row))
@@ -57,7 +58,8 @@ no_types how row fields a b c d element closed read f p q r none = rw (f, p, q) 
     at : (o : Option Vehicles) → AreTypesRead o read
         → MatchOption o (◌≡◌ {A = Result HoursRow HoursFileFault} (Err (fault.Vehicle row)) (Err (fault.Vehicle row))) (λ named.
         (types : Vehicles) × (found : Result (Option RowHours) HoursFileFault)
-        × IsOrdered named types × IsHoursColumn how row d found × (Err (fault.Vehicle row) ≡ with_hours element closed types found))
+        × IsOrdered named types × IsHoursColumn how row d found
+        × (Err (fault.Vehicle row) ≡ with_hours element closed types found))
     at None h = refl
     at (Some named) h = absurd (none h.0 h.2)
 

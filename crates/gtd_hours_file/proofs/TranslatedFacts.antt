@@ -45,7 +45,8 @@ some_text (Joined op left right) = simp length-append (omega arith)
 module _ (how : Manner) (stands : (domain : Domain) → StandsFor (canonical (domain_tree domain)) (domain_tree domain))
     (faultless : (domain : Domain) → HasNoFault (canonical (domain_tree domain))) where
   -- the text of a domain is read as it
-  column_read : (hours : Option RowHours) (tree : Option Tree) → IsDomainOf hours tree → IsDomainColumn (domain_text tree) (Ok tree)
+  column_read : (hours : Option RowHours) (tree : Option Tree) → IsDomainOf hours tree
+      → IsDomainColumn (domain_text tree) (Ok tree)
   column_read None tree is = subst (λ (t : Option Tree). IsDomainColumn (domain_text t) (Ok t)) (sym is) refl
   column_read (Some hours) tree is =
       let text = canonical (domain_tree is.0) in

@@ -14,8 +14,8 @@ use Rattle.gtd_hours_file.specs.declared.row.HoursRow.{HoursRow}
 use Rattle.gtd_hours_file.specs.declared.untranslated.Untranslated.{Untranslated}
 use Rattle.gtd_hours_file.specs.declared.untranslated.Untranslated.TheVariants as why
 
--- The bytes are a file of hours that is read in this manner, and the output took the record file that its rows are translated to, which has so many
--- lines.
+-- The bytes are a file of hours that is read in this manner, and the output took the record file that its rows are translated to,
+-- which has so many lines.
 pub record PutsRecords (how : Manner) (bytes : List ℕ) (old new : Option (List ℕ)) (count : ℕ) : Type 0 where
   pub rows : List HoursRow
   pub found : List Restriction

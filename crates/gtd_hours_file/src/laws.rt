@@ -47,8 +47,8 @@ pub fn text_is_a_record_file()
 }
 
 /// The bytes of a file of hours have one answer in a manner of reading: all that have one are at fault in the same way, or have
-/// the same rows, whose hours are open at the same seconds. Such rows are translated to restrictions of the same elements, directions and vehicle
-/// types, whose domains contain the same seconds.
+/// the same rows, whose hours are open at the same seconds. Such rows are translated to restrictions of the same elements,
+/// directions and vehicle types, whose domains contain the same seconds.
 pub fn one_answer()
     ensures answer { (how : Manner) (bytes : List ℕ) (one other : Result (List HoursRow) (List HoursFileFault)) →
         IsHoursFile how bytes one → IsHoursFile how bytes other → IsSameAnswer one other }
