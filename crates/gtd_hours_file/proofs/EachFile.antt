@@ -12,7 +12,6 @@ use Rattle.gtd_hours.specs.Cost.{hours_cost}
 use Rattle.gtd_hours.specs.declared.hours.Hours.{Hours}
 use Rattle.gtd_hours_grammar.specs.Faults.{IsFirstFault}
 use Rattle.gtd_hours_grammar.specs.declared.fault.HoursFault.{HoursFault}
-use Rattle.gtd_hours_loose.specs.declared.manner.Manner.{Manner}
 use Rattle.gtd_hours_loose.specs.declared.manner.Manner.TheVariants as manner
 use Rattle.gtd_hours_text.specs.Room.{HasRoom, HasVectors}
 use Rattle.gtd_hours_text.specs.Standing.{StandsFor}
@@ -104,7 +103,7 @@ module _ (room : HasRoom (20 * most_file_bytes + 4)) (texts : HasVectors ℕ mos
   kept text le hours is few =
       let v = texts (length text) le in (
         record { text = with_items v.0 text; read = record { hours = hours; form = None } },
-        record { text = with_items_is v.0 text (sym v.1); reads = (is, refl); few = few },
+        record { kept = with_items_is v.0 text (sym v.1); reads = (is, refl); few = few },
       )
 
   by_cost : (row b : ℕ) (text : List ℕ) → length (b ∷ text) ≤ most_file_bytes → (hours : Hours) → StandsFor (b ∷ text) hours

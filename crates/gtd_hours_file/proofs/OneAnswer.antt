@@ -4,7 +4,7 @@ use Rattle.std.proofs.Common.{length, arith}
 use Rattle.std.proofs.Common.{length-append}
 use Rattle.std.specs.Prelude.{◌↔◌, ℤ, Option, Some, None, MatchOption, Result, Ok, Err}
 use Rattle.csv.specs.Reading.{default_config, records, strip_bom}
-use Rattle.gtd_core.specs.Limits.{most_basic_domains, most_rows}
+use Rattle.gtd_core.specs.Limits.{most_rows}
 use Rattle.gtd_core.specs.Parts.{domain_tree}
 use Rattle.gtd_core.specs.Trees.{Tree}
 use Rattle.gtd_hours_grammar.specs.declared.fault.HoursFault.{HoursFault}

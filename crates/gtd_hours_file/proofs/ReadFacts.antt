@@ -186,3 +186,9 @@ pub file_few : (how : Manner) (bytes : List ℕ) (sound : List HoursRow) (faults
     → AreOfFile how bytes sound faults → length sound ≤ most_rows
 file_few how bytes sound faults (inl p) = table_few how (records default_config (strip_bom bytes)) sound faults p.1
 file_few how bytes sound faults (inr p) = let n = ap length p.1 in omega arith
+
+-- a file without a fault is one of rows alone
+pub without_faults : (how : Manner) (bytes : List ℕ) (sound : List HoursRow) (faults : List HoursFileFault)
+    → length faults ≡ 0 → AreOfFile how bytes sound faults → AreOfFile how bytes sound []
+without_faults how bytes sound [] none are = are
+without_faults how bytes sound (why ∷ faults) none are = absurd (omega arith)

@@ -4,10 +4,9 @@ use Rattle.std.specs.Prelude.{Result, Ok, Err, MatchOption, IfSome}
 use Rattle.std.proofs.Math.Nat.{min-le_left}
 use Rattle.gtd_core.specs.Limits.{most_basic_domains}
 use Rattle.gtd_hours.specs.Cost.{counted, hours_cost, most_counted}
-use Rattle.gtd_hours_loose.specs.Manners.{IsReadFaultIn, IsReadingIn}
+use Rattle.gtd_hours_loose.specs.Manners.{IsReadFaultIn}
 use Rattle.gtd_hours_loose.specs.declared.manner.Manner.{Manner}
 use Rattle.gtd_hours_loose.specs.declared.reader.LooseFault.TheVariants as loose
-use Rattle.gtd_hours_loose.specs.declared.reader.LooseHours.{LooseHours}
 use Rattle.gtd_hours_loose.specs.declared.reader.LooseReadFault.{LooseReadFault}
 use Rattle.gtd_hours_loose.specs.declared.reader.LooseReadFault.TheVariants as reading
 use Rattle.gtd_records.specs.Columns.{AreTypesRead, Fields, IsOrdered, closed_of, number_of, vehicles_of}

@@ -1,5 +1,5 @@
 -- The lines of warnings, row by row.
-use Rattle.std.proofs.Common.{◌≡◌, ◌∙◌, refl, sym, subst, arith, ℕ, ◌+◌, List, [], ◌∷◌, ◌++◌, append-nil}
+use Rattle.std.proofs.Common.{◌≡◌, refl, sym, subst, arith, ℕ, ◌+◌, List, [], ◌∷◌, ◌++◌, append-nil}
 use Rattle.std.proofs.Common.{append_assoc, length}
 use Rattle.gtd_faults.specs.Places.{IsLine}
 use Rattle.gtd_hours_file.specs.Warnings.{AreRowLines, AreWarnings}

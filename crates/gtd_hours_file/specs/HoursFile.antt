@@ -28,7 +28,7 @@ IsHoursFault how row text why = ⊥
 
 -- the text, and the hours that are read of it, whose domain has few enough basic domains
 pub record IsHoursOf (how : Manner) (text : List ℕ) (given : RowHours) : Type 0 where
-  pub text : given.text.items ≡ text
+  pub kept : given.text.items ≡ text
   pub reads : IsReadingIn how text given.read
   pub few : hours_cost given.read.hours ≤ most_basic_domains
 

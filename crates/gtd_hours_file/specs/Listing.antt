@@ -25,7 +25,7 @@ fault_text (fault.Direction row) = codes "row " ++ decimal row ++ codes ": Direc
 fault_text (fault.Vehicle row) = codes "row " ++ decimal row ++ codes ": Vehicle"
 fault_text (fault.Hours row why) =
     codes "row " ++ decimal row ++ codes ": Hours " ++ kind_name why.kind ++ codes " at " ++ decimal why.place
-fault_text (fault.Ambiguous row place) = codes "row " ++ decimal row ++ codes ": Hours Ambiguous at " ++ decimal place
+fault_text (fault.Ambiguous row place) = codes "row " ++ (decimal row ++ (codes ": Hours Ambiguous at " ++ decimal place))
 fault_text (fault.TooMany row) = codes "row " ++ decimal row ++ codes ": Hours TooMany at 0"
 fault_text fault.TooManyRows = codes "row 65537: TooManyRows"
 

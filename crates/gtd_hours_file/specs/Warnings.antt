@@ -49,7 +49,7 @@ never_line false path line row = []
 -- what stands before a warning of the hours of a row
 abbrev pub before_warning : List ℕ → ℕ → ℕ → List ℕ
 before_warning path line row =
-    printable path ++ codes ":" ++ decimal line ++ codes ": row " ++ decimal row ++ codes ": warning Hours "
+    printable path ++ (codes ":" ++ (decimal line ++ (codes ": row " ++ (decimal row ++ codes ": warning Hours "))))
 
 -- the warnings of a row's hours; a row without hours has none
 abbrev pub AreHoursWarnings : Option RowHours → List Warning → Type 0

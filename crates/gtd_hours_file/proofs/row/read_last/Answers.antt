@@ -1,10 +1,13 @@
 -- A text that is not empty is the whole column, or stops the row.
 use Rattle.std.proofs.Common.{arith}
+use Rattle.std.proofs.lemmas.Bool.Decides.{nat_tests}
 use Rattle.gtd_hours_file.proofs.RowFacts.{column_stops, some_column}
 use Rattle.gtd_hours_file.proofs.row.read_last.Goals as goal
 
 pub returns-in-Ok : goal.returns-in-Ok
-returns-in-Ok c = some_column c.args.manner c.args.number c.args.text.now c.in-Ok.hours ?some c.in-Ok.ensures.hours
+returns-in-Ok c =
+    some_column c.args.manner c.args.number c.args.text.now c.in-Ok.hours (grind (arith, nat_tests)) c.in-Ok.ensures.hours
 
 pub returns-in-Err : goal.returns-in-Err
-returns-in-Err c = column_stops c.args.manner c.args.number c.args.text.now c.in-Err.stop ?some c.in-Err.ensures.stop
+returns-in-Err c =
+    column_stops c.args.manner c.args.number c.args.text.now c.in-Err.stop (grind (arith, nat_tests)) c.in-Err.ensures.stop

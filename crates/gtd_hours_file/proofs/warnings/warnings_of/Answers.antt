@@ -22,7 +22,11 @@ loop-row-preserved c =
     let number = so_far.1 in
     let size = length-take at rows in
     let place : c.loop-row.number + 1 ≡ 1 + length (take at rows) = omega (arith, number, size, c.loop-row-test.true) in (
-      ?more,
+      rw (next, c.in_ok-extend_from_slice.ensures.items, c.as_slice.ensures.value)
+          (warnings_more path bytes 1 (take at rows) row c.loop-row.text.items c.in_ok-lines.lines.items c.in_ok-line.line
+          (subst (λ (n : ℕ). IsLine bytes n c.in_ok-line.line) place line)
+          (subst (λ (n : ℕ). AreRowLines path c.in_ok-line.line n row c.in_ok-lines.lines.items) place c.in_ok-lines.ensures)
+          so_far.0),
       omega (arith, number),
       stands.0,
       stands.2,
