@@ -87,11 +87,6 @@ pub hours_refused : (how : Manner) (text : Text) (old : Option (List ℕ)) (ende
 hours_refused how text old ended told n r is =
     record { whole = tt; refused = ((keeps_same told, refl), inr (is, keeps_same old)) }
 
--- memory was refused for the warnings of a text that is read
-pub warnings_refused : (how : Manner) (text : Text) (read : LooseHours) → IsReadingIn how text read
-    → IsRefusal how text refusal.Memory
-warnings_refused how text read reads = inr (read, reads, inl refl)
-
 -- ---- nothing is read
 
 module _ (how : Manner) (text : Text) (old new : Option (List ℕ)) (ended : Bool) (errors : Telling) (n : ℕ) where
