@@ -1,5 +1,5 @@
 -- What a plan prints, and how it ends.
-use Rattle.std.specs.Prelude.{◌≡◌, ◌≢◌, ◌↔◌, ◌⊎◌, ⊤, ℕ, ◌+◌, zero, suc, Bool, true, false, List, Option, Result, Ok}
+use Rattle.std.specs.Prelude.{◌≡◌, ◌≢◌, ◌↔◌, ◌⊎◌, ⊤, ℕ, ◌+◌, zero, suc, Bool, List, Option, Result, Ok}
 use Rattle.std.specs.Prelude.{Err, IsErrOf, IsTrue, Any, IfErr, IfOk, IfSome, OnOk, string_bytes, if◌then◌else◌}
 use Rattle.std.specs.Io.KnownBytes.{Appends, Keeps}
 use Rattle.gtd_core.specs.Parts.{domain_tree}
