@@ -1,8 +1,10 @@
 -- Each file of hours has an answer.
-use Rattle.std.proofs.Common.{◌≡◌, ap, refl, subst, ◌<◌, ◌≤◌, ◌+◌, ◌*◌, ◌⊎◌, inl, inr, ℕ, zero, suc, List, [], ◌∷◌, ◌++◌}
+use Rattle.std.proofs.Common.{◌≡◌, ap, refl, sym, subst, ◌<◌, ◌≤◌, ◌+◌, ◌*◌, ◌⊎◌, inl, inr, ℕ, zero, suc, List, [], ◌∷◌, ◌++◌}
 use Rattle.std.proofs.Common.{length, arith}
 use Rattle.std.specs.Prelude.{Option, Some, None, MatchOption, Result, Ok, Err}
+use Rattle.std.specs.Vec.{with_items}
 use Rattle.std.proofs.lemmas.Bool.{cases_eq, cases_lt}
+use Rattle.std.proofs.lemmas.List.{with_items_is}
 use Rattle.csv.specs.Reading.{default_config, records, strip_bom}
 use Rattle.gtd_core.specs.Limits.{most_basic_domains, most_file_bytes, most_rows}
 use Rattle.gtd_core.specs.facts.Deciding.{Decided}
@@ -10,7 +12,8 @@ use Rattle.gtd_hours.specs.Cost.{hours_cost}
 use Rattle.gtd_hours.specs.declared.hours.Hours.{Hours}
 use Rattle.gtd_hours_grammar.specs.Faults.{IsFirstFault}
 use Rattle.gtd_hours_grammar.specs.declared.fault.HoursFault.{HoursFault}
-use Rattle.gtd_hours_text.specs.Room.{HasRoom}
+use Rattle.gtd_hours_loose.specs.declared.manner.Manner.TheVariants as manner
+use Rattle.gtd_hours_text.specs.Room.{HasRoom, HasVectors}
 use Rattle.gtd_hours_text.specs.Standing.{StandsFor}
 use Rattle.gtd_records.specs.Columns.{Fields, IsOrdered, closed_of, number_of, vehicles_of}
 use Rattle.gtd_records.specs.declared.direction.Closed.{Closed}
@@ -18,11 +21,12 @@ use Rattle.gtd_records.specs.declared.vehicles.Vehicles.{Vehicles}
 use Rattle.gtd_records.specs.declared.vehicles.Vehicles.TheVariants.{Every, Only, AllBut}
 use Rattle.gtd_records.specs.declared.vehicles.Version.TheVariants as version
 use Rattle.gtd_records.specs.facts.SortedCodes.{ascending}
-use Rattle.gtd_hours_file.specs.HoursFile.{AreEach, AreOfFile, AreRows, AreTable, IsHoursColumn, IsHoursFile, IsRow, faults_of}
-use Rattle.gtd_hours_file.specs.HoursFile.{header, sound_of, with_hours}
+use Rattle.gtd_hours_file.specs.HoursFile.{AreEach, AreOfFile, AreRows, AreTable, IsHoursColumn, IsHoursFile, IsHoursOf, IsRow}
+use Rattle.gtd_hours_file.specs.HoursFile.{faults_of, header, sound_of, with_hours}
 use Rattle.gtd_hours_file.specs.declared.fault.HoursFileFault.{HoursFileFault}
 use Rattle.gtd_hours_file.specs.declared.fault.HoursFileFault.TheVariants as fault
 use Rattle.gtd_hours_file.specs.declared.row.HoursRow.{HoursRow}
+use Rattle.gtd_hours_file.specs.declared.row.RowHours.{RowHours}
 use Rattle.gtd_hours_file.proofs.ShortFields.{AreShort, AreShortRows, all_short, rows_before}
 
 types_of : (named : Vehicles) → (types : Vehicles) × IsOrdered named types
@@ -85,17 +89,29 @@ less_room few many le room = record {
   rules = λ n small. room.rules n (omega (arith, le, small));
 }
 
-module _ (room : HasRoom (20 * most_file_bytes + 4)) (each_text : (text : List ℕ) → HasRoom (20 * length text + 4)
+module _ (room : HasRoom (20 * most_file_bytes + 4)) (texts : HasVectors ℕ most_file_bytes)
+    (each_text : (text : List ℕ) → HasRoom (20 * length text + 4)
     → ((hours : Hours) × StandsFor text hours) ⊎ ((bad : HoursFault) × IsFirstFault text bad)) where
   -- ---- a row
 
   abbrev Column : ℕ → List ℕ → Type 0
-  Column row text = (read : Result (Option Hours) HoursFileFault) × IsHoursColumn row text read
+  Column row text = (read : Result (Option RowHours) HoursFileFault) × IsHoursColumn manner.Strict row text read
 
-  by_cost : (row b : ℕ) (text : List ℕ) (hours : Hours) → StandsFor (b ∷ text) hours → Column row (b ∷ text)
-  by_cost row b text hours is = elim (cases_lt most_basic_domains (hours_cost hours)) [
-    | inl many ↦ (Err (fault.TooMany row), (refl, hours, is, many))
-    | inr few ↦ (Ok (Some hours), (is, few))
+  -- the text and its hours are kept
+  kept : (text : List ℕ) → length text ≤ most_file_bytes → (hours : Hours) → StandsFor text hours
+      → hours_cost hours ≤ most_basic_domains → (given : RowHours) × IsHoursOf manner.Strict text given
+  kept text le hours is few =
+      let v = texts (length text) le in (
+        record { text = with_items v.0 text; read = record { hours = hours; form = None } },
+        record { kept = with_items_is v.0 text (sym v.1); reads = (is, refl); few = few },
+      )
+
+  by_cost : (row b : ℕ) (text : List ℕ) → length (b ∷ text) ≤ most_file_bytes → (hours : Hours) → StandsFor (b ∷ text) hours
+      → Column row (b ∷ text)
+  by_cost row b text le hours is = elim (cases_lt most_basic_domains (hours_cost hours)) [
+    | inl many ↦
+        (Err (fault.TooMany row), (refl, record { hours = hours; form = None }, (is, refl), many))
+    | inr few ↦ let k = kept (b ∷ text) le hours is few in (Ok (Some k.0), k.1)
   ]
 
   column : (row : ℕ) (text : List ℕ) → length text ≤ most_file_bytes → Column row text
@@ -103,14 +119,14 @@ module _ (room : HasRoom (20 * most_file_bytes + 4)) (each_text : (text : List �
   column row (b ∷ text) le =
       let small = less_room (20 * length (b ∷ text) + 4) (20 * most_file_bytes + 4) (omega (arith, le)) room in
       elim (each_text (b ∷ text) small) [
-        | inl h ↦ by_cost row b text h.0 h.1
+        | inl h ↦ by_cost row b text le h.0 h.1
         | inr bad ↦ (Err (fault.Hours row bad.0), (refl, bad.1))
       ]
 
   abbrev IsRead : ℕ → ℕ → Closed → List ℕ → Vehicles → Result HoursRow HoursFileFault → Type 0
   IsRead row x c hours named answer =
-      (types : Vehicles) × (read : Result (Option Hours) HoursFileFault)
-      × IsOrdered named types × IsHoursColumn row hours read × (answer ≡ with_hours x c types read)
+      (types : Vehicles) × (read : Result (Option RowHours) HoursFileFault)
+      × IsOrdered named types × IsHoursColumn manner.Strict row hours read × (answer ≡ with_hours x c types read)
 
   by_types : (row x : ℕ) (c : Closed) (hours : List ℕ) → length hours ≤ most_file_bytes → (named : Option Vehicles)
       → (answer : Result HoursRow HoursFileFault)
@@ -136,7 +152,7 @@ module _ (room : HasRoom (20 * most_file_bytes + 4)) (each_text : (text : List �
   by_number row hours le named closed (Some x) = by_closed row x hours le named closed
 
   each_row : (row : ℕ) (fields : Fields) → AreShort most_file_bytes fields
-      → (answer : Result HoursRow HoursFileFault) × IsRow row fields answer
+      → (answer : Result HoursRow HoursFileFault) × IsRow manner.Strict row fields answer
   each_row row [] short = (Err (fault.FieldCount row), refl)
   each_row row (c ∷ []) short = (Err (fault.FieldCount row), refl)
   each_row row (c ∷ d ∷ []) short = (Err (fault.FieldCount row), refl)
@@ -147,7 +163,7 @@ module _ (room : HasRoom (20 * most_file_bytes + 4)) (each_text : (text : List �
 
   -- ---- a file
 
-  each_rows : (number : ℕ) (rows : List Fields) → AreShortRows most_file_bytes rows → Says (AreEach number rows)
+  each_rows : (number : ℕ) (rows : List Fields) → AreShortRows most_file_bytes rows → Says (AreEach manner.Strict number rows)
   each_rows number [] short = record { sound = []; faults = []; are = (refl, refl) }
   each_rows number (row ∷ rows) short =
       let first = each_row number row short.0 in
@@ -158,7 +174,7 @@ module _ (room : HasRoom (20 * most_file_bytes + 4)) (each_text : (text : List �
         are = (first.0, more.sound, more.faults, first.1, more.are, refl, refl);
       }
 
-  too_many : (rows : List Fields) → AreShortRows most_file_bytes rows → Split most_rows rows → Says (AreRows rows)
+  too_many : (rows : List Fields) → AreShortRows most_file_bytes rows → Split most_rows rows → Says (AreRows manner.Strict rows)
   too_many rows short s =
       let each = each_rows 1 s.before (rows_before most_file_bytes s.before (s.row ∷ s.after)
       (subst (AreShortRows most_file_bytes) s.split short)) in
@@ -177,7 +193,7 @@ module _ (room : HasRoom (20 * most_file_bytes + 4)) (each_text : (text : List �
         });
       }
 
-  all_rows : (rows : List Fields) → AreShortRows most_file_bytes rows → Says (AreRows rows)
+  all_rows : (rows : List Fields) → AreShortRows most_file_bytes rows → Says (AreRows manner.Strict rows)
   all_rows rows short = elim (cases_lt most_rows (length rows)) [
     | inl many ↦ too_many rows short (split_at most_rows rows many)
     | inr few ↦
@@ -186,7 +202,7 @@ module _ (room : HasRoom (20 * most_file_bytes + 4)) (each_text : (text : List �
   ]
 
   under : (first : Fields) (rows : List Fields) → AreShortRows most_file_bytes rows → Decided (first ≡ header)
-      → Says (AreTable (first ∷ rows))
+      → Says (AreTable manner.Strict (first ∷ rows))
   under first rows short (inl is) =
       let all = all_rows rows short in
       record { sound = all.sound; faults = all.faults; are = inl (rows, ap (λ (f : Fields). f ∷ rows) is, all.are) }
@@ -196,12 +212,12 @@ module _ (room : HasRoom (20 * most_file_bytes + 4)) (each_text : (text : List �
     are = inr ((λ others e. never (heads first header rows others e)), refl, refl);
   }
 
-  each_table : (text : List Fields) → AreShortRows most_file_bytes text → Says (AreTable text)
+  each_table : (text : List Fields) → AreShortRows most_file_bytes text → Says (AreTable manner.Strict text)
   each_table [] short =
       record { sound = []; faults = fault.Header ∷ []; are = inr ((λ others e. absurd cc), refl, refl) }
   each_table (first ∷ rows) short = under first rows short.1 (same_list (same_list cases_eq) first header)
 
-  each_bytes : (bytes : List ℕ) → Says (AreOfFile bytes)
+  each_bytes : (bytes : List ℕ) → Says (AreOfFile manner.Strict bytes)
   each_bytes bytes = elim (cases_lt most_file_bytes (length bytes)) [
     | inl many ↦ record { sound = []; faults = fault.TooLarge ∷ []; are = inr (many, refl, refl) }
     | inr few ↦
@@ -209,10 +225,11 @@ module _ (room : HasRoom (20 * most_file_bytes + 4)) (each_text : (text : List �
         record { sound = t.sound; faults = t.faults; are = inl (few, t.are) }
   ]
 
-  by_faults : (bytes : List ℕ) (sound : List HoursRow) (faults : List HoursFileFault) → AreOfFile bytes sound faults
-      → (answer : Result (List HoursRow) (List HoursFileFault)) × IsHoursFile bytes answer
+  by_faults : (bytes : List ℕ) (sound : List HoursRow) (faults : List HoursFileFault) → AreOfFile manner.Strict bytes sound faults
+      → (answer : Result (List HoursRow) (List HoursFileFault)) × IsHoursFile manner.Strict bytes answer
   by_faults bytes sound [] are = (Ok sound, are)
   by_faults bytes sound (why ∷ faults) are = (Err (why ∷ faults), (sound, are, λ e. cc))
 
-  pub each_file : (bytes : List ℕ) → (answer : Result (List HoursRow) (List HoursFileFault)) × IsHoursFile bytes answer
+  pub each_file : (bytes : List ℕ)
+      → (answer : Result (List HoursRow) (List HoursFileFault)) × IsHoursFile manner.Strict bytes answer
   each_file bytes = let s = each_bytes bytes in by_faults bytes s.sound s.faults s.are

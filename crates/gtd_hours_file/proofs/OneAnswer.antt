@@ -4,16 +4,17 @@ use Rattle.std.proofs.Common.{length, arith}
 use Rattle.std.proofs.Common.{length-append}
 use Rattle.std.specs.Prelude.{◌↔◌, ℤ, Option, Some, None, MatchOption, Result, Ok, Err}
 use Rattle.csv.specs.Reading.{default_config, records, strip_bom}
-use Rattle.gtd_core.specs.Limits.{most_basic_domains, most_rows}
+use Rattle.gtd_core.specs.Limits.{most_rows}
 use Rattle.gtd_core.specs.Parts.{domain_tree}
 use Rattle.gtd_core.specs.Trees.{Tree}
-use Rattle.gtd_hours_grammar.specs.Faults.{IsFirstFault, IsHoursText}
 use Rattle.gtd_hours_grammar.specs.declared.fault.HoursFault.{HoursFault}
-use Rattle.gtd_hours_moves.specs.Terms.{Piece}
-use Rattle.gtd_hours_text.specs.Standing.{StandsFor}
 use Rattle.gtd_hours.specs.Cost.{hours_cost}
 use Rattle.gtd_hours.specs.Opening.{IsOpen}
-use Rattle.gtd_hours.specs.declared.hours.Hours.{Hours}
+use Rattle.gtd_hours_loose.specs.Manners.{IsFaultIn, IsReadingIn}
+use Rattle.gtd_hours_loose.specs.declared.manner.Manner.{Manner}
+use Rattle.gtd_hours_loose.specs.declared.reader.LooseFault.{LooseFault}
+use Rattle.gtd_hours_loose.specs.declared.reader.LooseFault.TheVariants as loose
+use Rattle.gtd_hours_loose.specs.declared.reader.LooseHours.{LooseHours}
 use Rattle.gtd_records.specs.Closing.{HoldsAt, Restriction}
 use Rattle.gtd_records.specs.Columns.{Fields, IsOrdered, IsSortedSet, closed_of, number_of, vehicles_of}
 use Rattle.gtd_records.specs.declared.direction.Closed.{Closed}
@@ -22,13 +23,14 @@ use Rattle.gtd_records.specs.declared.vehicles.Vehicles.TheVariants.{Every, Only
 use Rattle.gtd_records.specs.declared.vehicles.Version.TheVariants as version
 use Rattle.gtd_records.specs.facts.Rising.{one_list}
 use Rattle.gtd_hours_file.specs.HoursFile.{AreEach, AreOfFile, AreRows, AreTable, AreTooMany, IsFullRow, IsHoursColumn}
-use Rattle.gtd_hours_file.specs.HoursFile.{IsHoursFault, IsHoursFile, IsRow, faults_of, header, sound_of, with_hours}
+use Rattle.gtd_hours_file.specs.HoursFile.{IsHoursFault, IsHoursFile, IsHoursOf, IsRow, faults_of, header, sound_of, with_hours}
 use Rattle.gtd_hours_file.specs.SameAnswers.{AreSameHours, AreSameRestrictions, AreSameRows, IsSameAnswer, IsSameRestriction}
 use Rattle.gtd_hours_file.specs.SameAnswers.{IsSameRow}
 use Rattle.gtd_hours_file.specs.Translated.{IsDomainOf, IsTranslated, IsTranslation}
 use Rattle.gtd_hours_file.specs.declared.fault.HoursFileFault.{HoursFileFault}
 use Rattle.gtd_hours_file.specs.declared.fault.HoursFileFault.TheVariants as fault
 use Rattle.gtd_hours_file.specs.declared.row.HoursRow.{HoursRow}
+use Rattle.gtd_hours_file.specs.declared.row.RowHours.{RowHours}
 
 one_ascending : (codes xs ys : List ℕ) → IsSortedSet codes xs → IsSortedSet codes ys → xs ≡ ys
 one_ascending codes xs ys p q =
@@ -68,7 +70,7 @@ one_front (w ∷ xs) (z ∷ ys) x y more rest long e =
 
 -- ---- answers for a column and for a row
 
-abbrev SameColumn : Result (Option Hours) HoursFileFault → Result (Option Hours) HoursFileFault → Type 0
+abbrev SameColumn : Result (Option RowHours) HoursFileFault → Result (Option RowHours) HoursFileFault → Type 0
 SameColumn (Ok one) (Ok other) = AreSameHours one other
 SameColumn (Err one) (Err other) = one ≡ other
 SameColumn one other = ⊥
@@ -78,7 +80,7 @@ SameOfRow (Ok one) (Ok other) = IsSameRow one other
 SameOfRow (Err one) (Err other) = one ≡ other
 SameOfRow one other = ⊥
 
-same_with : (element : ℕ) (closed : Closed) (vehicles : Vehicles) (one other : Result (Option Hours) HoursFileFault)
+same_with : (element : ℕ) (closed : Closed) (vehicles : Vehicles) (one other : Result (Option RowHours) HoursFileFault)
     → SameColumn one other → SameOfRow (with_hours element closed vehicles one) (with_hours element closed vehicles other)
 same_with element closed vehicles (Ok one) (Ok other) same =
     record { element = refl; closed = refl; vehicles = refl; hours = same }
@@ -86,13 +88,26 @@ same_with element closed vehicles (Ok one) (Err w) same = absurd same
 same_with element closed vehicles (Err v) (Ok other) same = absurd same
 same_with element closed vehicles (Err v) (Err w) same = same
 
-module _ (one_open : (text : List ℕ) (one other : Hours) → StandsFor text one → StandsFor text other
-    → (s : ℤ) → IsOpen one s ↔ IsOpen other s)
-    (one_cost : (text : List ℕ) (one other : Hours) → StandsFor text one → StandsFor text other
-    → hours_cost one ≡ hours_cost other)
-    (one_fault : (text : List ℕ) (one other : HoursFault) → IsFirstFault text one → IsFirstFault text other → one ≡ other)
-    (apart : (text : List ℕ) (p : List Piece) (bad : HoursFault) → IsHoursText text p → IsFirstFault text bad → ⊥) where
-  same_fault : (row : ℕ) (text : List ℕ) (v w : HoursFileFault) → IsHoursFault row text v → IsHoursFault row text w → v ≡ w
+-- what is said of a text by a fault of it
+hours_is : (x y : HoursFault) → loose.Hours x ≡ loose.Hours y → x ≡ y
+hours_is x y e = cc
+
+place_is : (m n : ℕ) → loose.Ambiguous m ≡ loose.Ambiguous n → m ≡ n
+place_is m n e = cc
+
+apart_faults : (x : HoursFault) (n : ℕ) → loose.Hours x ≡ loose.Ambiguous n → ⊥
+apart_faults x n e = cc
+
+module _ (how : Manner)
+    (one_open : (text : List ℕ) (one other : LooseHours) → IsReadingIn how text one → IsReadingIn how text other
+    → (s : ℤ) → IsOpen one.hours s ↔ IsOpen other.hours s)
+    (one_cost : (text : List ℕ) (one other : LooseHours) → IsReadingIn how text one → IsReadingIn how text other
+    → hours_cost one.hours ≡ hours_cost other.hours)
+    (one_fault : (text : List ℕ) (one other : LooseFault) → IsFaultIn how text one → IsFaultIn how text other → one ≡ other)
+    (apart : (text : List ℕ) (read : LooseHours) (bad : LooseFault) → IsReadingIn how text read → IsFaultIn how text bad
+    → ⊥) where
+  same_fault : (row : ℕ) (text : List ℕ) (v w : HoursFileFault) → IsHoursFault how row text v → IsHoursFault how row text w
+      → v ≡ w
   same_fault row text fault.TooLarge w p q = absurd p
   same_fault row text fault.Header w p q = absurd p
   same_fault row text (fault.FieldCount i) w p q = absurd p
@@ -107,6 +122,13 @@ module _ (one_open : (text : List ℕ) (one other : Hours) → StandsFor text on
   same_fault row text (fault.Hours i x) (fault.Direction j) p q = absurd q
   same_fault row text (fault.Hours i x) (fault.Vehicle j) p q = absurd q
   same_fault row text (fault.Hours i x) fault.TooManyRows p q = absurd q
+  same_fault row text (fault.Ambiguous i m) fault.TooLarge p q = absurd q
+  same_fault row text (fault.Ambiguous i m) fault.Header p q = absurd q
+  same_fault row text (fault.Ambiguous i m) (fault.FieldCount j) p q = absurd q
+  same_fault row text (fault.Ambiguous i m) (fault.Element j) p q = absurd q
+  same_fault row text (fault.Ambiguous i m) (fault.Direction j) p q = absurd q
+  same_fault row text (fault.Ambiguous i m) (fault.Vehicle j) p q = absurd q
+  same_fault row text (fault.Ambiguous i m) fault.TooManyRows p q = absurd q
   same_fault row text (fault.TooMany i) fault.TooLarge p q = absurd q
   same_fault row text (fault.TooMany i) fault.Header p q = absurd q
   same_fault row text (fault.TooMany i) (fault.FieldCount j) p q = absurd q
@@ -115,39 +137,51 @@ module _ (one_open : (text : List ℕ) (one other : Hours) → StandsFor text on
   same_fault row text (fault.TooMany i) (fault.Vehicle j) p q = absurd q
   same_fault row text (fault.TooMany i) fault.TooManyRows p q = absurd q
   same_fault row text (fault.Hours i x) (fault.Hours j y) p q =
-      ap (λ (n : ℕ). fault.Hours n x) (p.0 ∙ sym q.0) ∙ ap (λ (f : HoursFault). fault.Hours j f) (one_fault text x y p.1 q.1)
-  same_fault row text (fault.Hours i x) (fault.TooMany j) p q = absurd (apart text q.2.p x q.2.is p.1)
-  same_fault row text (fault.TooMany i) (fault.Hours j y) p q = absurd (apart text p.2.p y p.2.is q.1)
+      ap (λ (n : ℕ). fault.Hours n x) (p.0 ∙ sym q.0)
+      ∙ ap (λ (f : HoursFault). fault.Hours j f) (hours_is x y (one_fault text (loose.Hours x) (loose.Hours y) p.1 q.1))
+  same_fault row text (fault.Hours i x) (fault.Ambiguous j n) p q =
+      absurd (apart_faults x n (one_fault text (loose.Hours x) (loose.Ambiguous n) p.1 q.1))
+  same_fault row text (fault.Ambiguous i m) (fault.Hours j y) p q =
+      absurd (apart_faults y m (one_fault text (loose.Hours y) (loose.Ambiguous m) q.1 p.1))
+  same_fault row text (fault.Ambiguous i m) (fault.Ambiguous j n) p q =
+      ap (λ (k : ℕ). fault.Ambiguous k m) (p.0 ∙ sym q.0)
+      ∙ ap (λ (k : ℕ). fault.Ambiguous j k) (place_is m n (one_fault text (loose.Ambiguous m) (loose.Ambiguous n) p.1 q.1))
+  same_fault row text (fault.Hours i x) (fault.TooMany j) p q = absurd (apart text q.1 (loose.Hours x) q.2 p.1)
+  same_fault row text (fault.TooMany i) (fault.Hours j y) p q = absurd (apart text p.1 (loose.Hours y) p.2 q.1)
+  same_fault row text (fault.Ambiguous i m) (fault.TooMany j) p q = absurd (apart text q.1 (loose.Ambiguous m) q.2 p.1)
+  same_fault row text (fault.TooMany i) (fault.Ambiguous j n) p q = absurd (apart text p.1 (loose.Ambiguous n) p.2 q.1)
   same_fault row text (fault.TooMany i) (fault.TooMany j) p q = ap (λ (n : ℕ). fault.TooMany n) (p.0 ∙ sym q.0)
 
-  not_faulty : (row : ℕ) (text : List ℕ) (hours : Hours) (w : HoursFileFault) → StandsFor text hours
-      → hours_cost hours ≤ most_basic_domains → IsHoursFault row text w → ⊥
-  not_faulty row text hours fault.TooLarge s few q = q
-  not_faulty row text hours fault.Header s few q = q
-  not_faulty row text hours (fault.FieldCount i) s few q = q
-  not_faulty row text hours (fault.Element i) s few q = q
-  not_faulty row text hours (fault.Direction i) s few q = q
-  not_faulty row text hours (fault.Vehicle i) s few q = q
-  not_faulty row text hours fault.TooManyRows s few q = q
-  not_faulty row text hours (fault.Hours j y) s few q = apart text s.p y s.is q.1
-  not_faulty row text hours (fault.TooMany j) s few q =
-      let same = one_cost text hours q.1 s q.2 in let many = q.3 in omega (arith, same, many, few)
+  not_faulty : (row : ℕ) (text : List ℕ) (given : RowHours) (w : HoursFileFault) → IsHoursOf how text given
+      → IsHoursFault how row text w → ⊥
+  not_faulty row text given fault.TooLarge is q = q
+  not_faulty row text given fault.Header is q = q
+  not_faulty row text given (fault.FieldCount i) is q = q
+  not_faulty row text given (fault.Element i) is q = q
+  not_faulty row text given (fault.Direction i) is q = q
+  not_faulty row text given (fault.Vehicle i) is q = q
+  not_faulty row text given fault.TooManyRows is q = q
+  not_faulty row text given (fault.Hours j y) is q = apart text given.read (loose.Hours y) is.reads q.1
+  not_faulty row text given (fault.Ambiguous j n) is q = apart text given.read (loose.Ambiguous n) is.reads q.1
+  not_faulty row text given (fault.TooMany j) is q =
+      let same = one_cost text given.read q.1 is.reads q.2 in
+      let many = q.3 in let few = is.few in omega (arith, same, many, few)
 
-  same_column : (row : ℕ) (text : List ℕ) (a b : Result (Option Hours) HoursFileFault) → IsHoursColumn row text a
-      → IsHoursColumn row text b → SameColumn a b
+  same_column : (row : ℕ) (text : List ℕ) (a b : Result (Option RowHours) HoursFileFault) → IsHoursColumn how row text a
+      → IsHoursColumn how row text b → SameColumn a b
   same_column row [] a b p q = between SameColumn a b (Ok None) (Ok None) p q tt
   same_column row (c ∷ text) (Ok None) b p q = absurd p
   same_column row (c ∷ text) (Ok (Some x)) (Ok None) p q = absurd q
-  same_column row (c ∷ text) (Ok (Some x)) (Ok (Some y)) p q = one_open (c ∷ text) x y p.0 q.0
-  same_column row (c ∷ text) (Ok (Some x)) (Err w) p q = absurd (not_faulty row (c ∷ text) x w p.0 p.1 q)
+  same_column row (c ∷ text) (Ok (Some x)) (Ok (Some y)) p q = one_open (c ∷ text) x.read y.read p.reads q.reads
+  same_column row (c ∷ text) (Ok (Some x)) (Err w) p q = absurd (not_faulty row (c ∷ text) x w p q)
   same_column row (c ∷ text) (Err v) (Ok None) p q = absurd q
-  same_column row (c ∷ text) (Err v) (Ok (Some y)) p q = absurd (not_faulty row (c ∷ text) y v q.0 q.1 p)
+  same_column row (c ∷ text) (Err v) (Ok (Some y)) p q = absurd (not_faulty row (c ∷ text) y v q p)
   same_column row (c ∷ text) (Err v) (Err w) p q = same_fault row (c ∷ text) v w p q
 
   abbrev Read : ℕ → ℕ → Closed → List ℕ → Vehicles → Result HoursRow HoursFileFault → Type 0
   Read row x c hours named r =
-      (types : Vehicles) × (read : Result (Option Hours) HoursFileFault)
-      × IsOrdered named types × IsHoursColumn row hours read × (r ≡ with_hours x c types read)
+      (types : Vehicles) × (read : Result (Option RowHours) HoursFileFault)
+      × IsOrdered named types × IsHoursColumn how row hours read × (r ≡ with_hours x c types read)
 
   same_read : (row x : ℕ) (c : Closed) (hours : List ℕ) (named : Vehicles) (a b : Result HoursRow HoursFileFault)
       → Read row x c hours named a → Read row x c hours named b → SameOfRow a b
@@ -157,7 +191,7 @@ module _ (one_open : (text : List ℕ) (one other : Hours) → StandsFor text on
       (same_with x c q.0 p.1 q.1 (same_column row hours p.1 q.1 p.3 q.3))
 
   same_full_row : (row : ℕ) (element closed vehicles hours : List ℕ) (a b : Result HoursRow HoursFileFault)
-      → IsFullRow row element closed vehicles hours a → IsFullRow row element closed vehicles hours b → SameOfRow a b
+      → IsFullRow how row element closed vehicles hours a → IsFullRow how row element closed vehicles hours b → SameOfRow a b
   same_full_row row element closed vehicles hours a b p q =
       agree SameOfRow (number_of element) (Err (fault.Element row)) (λ x r.
       MatchOption (closed_of closed) (r ≡ Err (fault.Direction row)) (λ c.
@@ -172,8 +206,8 @@ module _ (one_open : (text : List ℕ) (one other : Hours) → StandsFor text on
       → b ≡ Err (fault.FieldCount row) → SameOfRow a b
   same_count_fault row a b p q = between SameOfRow a b (Err (fault.FieldCount row)) (Err (fault.FieldCount row)) p q refl
 
-  same_row : (row : ℕ) (fields : Fields) (a b : Result HoursRow HoursFileFault) → IsRow row fields a → IsRow row fields b
-      → SameOfRow a b
+  same_row : (row : ℕ) (fields : Fields) (a b : Result HoursRow HoursFileFault) → IsRow how row fields a
+      → IsRow how row fields b → SameOfRow a b
   same_row row [] a b p q = same_count_fault row a b p q
   same_row row (c ∷ []) a b p q = same_count_fault row a b p q
   same_row row (c ∷ d ∷ []) a b p q = same_count_fault row a b p q
@@ -202,7 +236,7 @@ module _ (one_open : (text : List ℕ) (one other : Hours) → StandsFor text on
       (between AreSameRows sound also s t a b same.0, c ∙ same.1 ∙ sym d)
 
   same_each : (number : ℕ) (rows : List Fields) (sound also : List HoursRow) (faults others : List HoursFileFault)
-      → AreEach number rows sound faults → AreEach number rows also others → Same sound also faults others
+      → AreEach how number rows sound faults → AreEach how number rows also others → Same sound also faults others
   same_each number [] sound also faults others p q = same_by [] [] sound also [] [] faults others p.0 q.0 p.1 q.1 (tt, refl)
   same_each number (row ∷ rows) sound also faults others p q =
       same_by (sound_of p.0 ++ p.1) (sound_of q.0 ++ q.1) sound also (faults_of p.0 ++ p.2) (faults_of q.0 ++ q.2) faults others
@@ -211,38 +245,38 @@ module _ (one_open : (text : List ℕ) (one other : Hours) → StandsFor text on
       (same_each (number + 1) rows p.1 q.1 p.2 q.2 p.4 q.4))
 
   same_too_many : (rows : List Fields) (sound also : List HoursRow) (faults others : List HoursFileFault)
-      → AreTooMany rows sound faults → AreTooMany rows also others → Same sound also faults others
+      → AreTooMany how rows sound faults → AreTooMany how rows also others → Same sound also faults others
   same_too_many rows sound also faults others p q =
       let front = one_front p.before q.before p.row q.row p.after q.after (p.many ∙ sym q.many) (sym p.split ∙ q.split) in
       let same = same_each 1 q.before sound also p.listed q.listed
-      (subst (λ (l : List Fields). AreEach 1 l sound p.listed) front p.each) q.each in
+      (subst (λ (l : List Fields). AreEach how 1 l sound p.listed) front p.each) q.each in
       (same.0, p.whole ∙ ap (λ (l : List HoursFileFault). l ++ (fault.TooManyRows ∷ [])) same.1 ∙ sym q.whole)
 
   not_few : (rows : List Fields) (sound : List HoursRow) (faults : List HoursFileFault) → length rows ≤ most_rows
-      → AreTooMany rows sound faults → ⊥
+      → AreTooMany how rows sound faults → ⊥
   not_few rows sound faults few p =
       let long = ap length p.split ∙ length-append p.before (p.row ∷ p.after) in
       let many = p.many in omega (arith, long, many, few)
 
   same_rows : (rows : List Fields) (sound also : List HoursRow) (faults others : List HoursFileFault)
-      → AreRows rows sound faults → AreRows rows also others → Same sound also faults others
+      → AreRows how rows sound faults → AreRows how rows also others → Same sound also faults others
   same_rows rows sound also faults others (inl p) (inl q) = same_each 1 rows sound also faults others p.1 q.1
   same_rows rows sound also faults others (inl p) (inr q) = absurd (not_few rows also others p.0 q)
   same_rows rows sound also faults others (inr p) (inl q) = absurd (not_few rows sound faults q.0 p)
   same_rows rows sound also faults others (inr p) (inr q) = same_too_many rows sound also faults others p q
 
   same_table : (text : List Fields) (sound also : List HoursRow) (faults others : List HoursFileFault)
-      → AreTable text sound faults → AreTable text also others → Same sound also faults others
+      → AreTable how text sound faults → AreTable how text also others → Same sound also faults others
   same_table text sound also faults others (inl p) (inl q) =
       let rows = tail_is header header p.0 q.0 (sym p.1 ∙ q.1) in
-      same_rows q.0 sound also faults others (subst (λ (l : List Fields). AreRows l sound faults) rows p.2) q.2
+      same_rows q.0 sound also faults others (subst (λ (l : List Fields). AreRows how l sound faults) rows p.2) q.2
   same_table text sound also faults others (inl p) (inr q) = absurd (q.0 p.0 p.1)
   same_table text sound also faults others (inr p) (inl q) = absurd (p.0 q.0 q.1)
   same_table text sound also faults others (inr p) (inr q) =
       same_by [] [] sound also (fault.Header ∷ []) (fault.Header ∷ []) faults others p.1 q.1 p.2 q.2 (tt, refl)
 
   same_of_file : (bytes : List ℕ) (sound also : List HoursRow) (faults others : List HoursFileFault)
-      → AreOfFile bytes sound faults → AreOfFile bytes also others → Same sound also faults others
+      → AreOfFile how bytes sound faults → AreOfFile how bytes also others → Same sound also faults others
   same_of_file bytes sound also faults others (inl p) (inl q) =
       same_table (records default_config (strip_bom bytes)) sound also faults others p.1 q.1
   same_of_file bytes sound also faults others (inl p) (inr q) = let l = p.0 in let h = q.0 in absurd (omega arith)
@@ -251,8 +285,8 @@ module _ (one_open : (text : List ℕ) (one other : Hours) → StandsFor text on
       same_by [] [] sound also (fault.TooLarge ∷ []) (fault.TooLarge ∷ []) faults others p.1 q.1 p.2 q.2 (tt, refl)
 
   -- the bytes of a file have one answer
-  pub one_answer : (bytes : List ℕ) (a b : Result (List HoursRow) (List HoursFileFault)) → IsHoursFile bytes a
-      → IsHoursFile bytes b → IsSameAnswer a b
+  pub one_answer : (bytes : List ℕ) (a b : Result (List HoursRow) (List HoursFileFault)) → IsHoursFile how bytes a
+      → IsHoursFile how bytes b → IsSameAnswer a b
   one_answer bytes (Ok rows) (Ok also) p q = (same_of_file bytes rows also [] [] p q).0
   one_answer bytes (Ok rows) (Err w) p q = absurd (q.2 (sym (same_of_file bytes rows q.0 [] w p q.1).1))
   one_answer bytes (Err v) (Ok also) p q = absurd (p.2 (same_of_file bytes p.0 also v [] p.1 q).1)
@@ -260,7 +294,7 @@ module _ (one_open : (text : List ℕ) (one other : Hours) → StandsFor text on
 
 -- ---- what the rows are translated to
 
-same_seconds : (one other : Option Hours) (a b : Option Tree) → AreSameHours one other → IsDomainOf one a → IsDomainOf other b
+same_seconds : (one other : Option RowHours) (a b : Option Tree) → AreSameHours one other → IsDomainOf one a → IsDomainOf other b
     → (second : ℤ) → HoldsAt a second ↔ HoldsAt b second
 same_seconds None None a b same p q second =
     between (λ (x y : Option Tree). HoldsAt x second ↔ HoldsAt y second) a b None None p q ((λ h. h), (λ h. h))

@@ -8,7 +8,7 @@ use Rattle.gtd_core.specs.Parts.{domain_tree}
 use Rattle.gtd_core.specs.Trees.{Tree, Single, Joined}
 use Rattle.gtd_core.specs.declared.domain.Domain.{Domain}
 use Rattle.gtd_migrate.specs.Migrated.{domain_text, migrated}
-use Rattle.gtd_hours.specs.declared.hours.Hours.{Hours}
+use Rattle.gtd_hours_loose.specs.declared.manner.Manner.{Manner}
 use Rattle.gtd_records.specs.Closing.{Restriction}
 use Rattle.gtd_records.specs.Columns.{Fields}
 use Rattle.gtd_records.specs.ComputedFile.{AreRecords, AreSoundRows}
@@ -26,6 +26,7 @@ use Rattle.gtd_hours_file.specs.Translated.{IsDomainOf, IsTranslated, IsTranslat
 use Rattle.gtd_hours_file.specs.declared.fault.HoursFileFault.{HoursFileFault}
 use Rattle.gtd_hours_file.specs.declared.fault.HoursFileFault.TheVariants as fault
 use Rattle.gtd_hours_file.specs.declared.row.HoursRow.{HoursRow}
+use Rattle.gtd_hours_file.specs.declared.row.RowHours.{RowHours}
 use Rattle.gtd_hours_file.proofs.RowFacts.{AreColumnsOf, columns_of}
 
 -- rows and restrictions are one for one
@@ -41,10 +42,11 @@ some_text : (tree : Tree) → 0 < length (canonical tree)
 some_text (Single start duration) = simp length-append (omega arith)
 some_text (Joined op left right) = simp length-append (omega arith)
 
-module _ (stands : (domain : Domain) → StandsFor (canonical (domain_tree domain)) (domain_tree domain))
+module _ (how : Manner) (stands : (domain : Domain) → StandsFor (canonical (domain_tree domain)) (domain_tree domain))
     (faultless : (domain : Domain) → HasNoFault (canonical (domain_tree domain))) where
   -- the text of a domain is read as it
-  column_read : (hours : Option Hours) (tree : Option Tree) → IsDomainOf hours tree → IsDomainColumn (domain_text tree) (Ok tree)
+  column_read : (hours : Option RowHours) (tree : Option Tree) → IsDomainOf hours tree
+      → IsDomainColumn (domain_text tree) (Ok tree)
   column_read None tree is = subst (λ (t : Option Tree). IsDomainColumn (domain_text t) (Ok t)) (sym is) refl
   column_read (Some hours) tree is =
       let text = canonical (domain_tree is.0) in
@@ -55,7 +57,7 @@ module _ (stands : (domain : Domain) → StandsFor (canonical (domain_tree domai
   abbrev HasRecord : ℕ → Restriction → Type 0
   HasRecord row r = (other : Fields) × record_file.IsRow version.Two row other (Ok r)
 
-  full_record : (row : ℕ) (a b c d : List ℕ) (h : HoursRow) (r : Restriction) → AreColumnsOf row a b c d h → IsTranslated h r
+  full_record : (row : ℕ) (a b c d : List ℕ) (h : HoursRow) (r : Restriction) → AreColumnsOf how row a b c d h → IsTranslated h r
       → HasRecord row r
   full_record row a b c d h r are is =
       let other = a ∷ b ∷ c ∷ domain_text r.domain ∷ [] in
@@ -65,13 +67,13 @@ module _ (stands : (domain : Domain) → StandsFor (canonical (domain_tree domai
       (let e = is.element in let f = is.closed in let v = is.vehicles in rw (← e, ← f, ← v) refl) in
       (other, subst (λ (x : Restriction). record_file.IsRow version.Two row other (Ok x)) same made)
 
-  row_record : (row : ℕ) (fields : Fields) (h : HoursRow) (r : Restriction) → IsRow row fields (Ok h) → IsTranslated h r
+  row_record : (row : ℕ) (fields : Fields) (h : HoursRow) (r : Restriction) → IsRow how row fields (Ok h) → IsTranslated h r
       → HasRecord row r
   row_record row [] h r is t = absurd cc
   row_record row (a ∷ []) h r is t = absurd cc
   row_record row (a ∷ b ∷ []) h r is t = absurd cc
   row_record row (a ∷ b ∷ c ∷ []) h r is t = absurd cc
-  row_record row (a ∷ b ∷ c ∷ d ∷ []) h r is t = full_record row a b c d h r (columns_of row a b c d h is) t
+  row_record row (a ∷ b ∷ c ∷ d ∷ []) h r is t = full_record row a b c d h r (columns_of how row a b c d h is) t
   row_record row (a ∷ b ∷ c ∷ d ∷ e ∷ more) h r is t = absurd cc
 
   -- so rows without a fault are translated to rows of a record file
@@ -80,7 +82,7 @@ module _ (stands : (domain : Domain) → StandsFor (canonical (domain_tree domai
       (others : List Fields) × (length others ≡ count) × AreRecords version.Two number others found
 
   by_answer : (number : ℕ) (row : Fields) (rows : List Fields) (a : Result HoursRow HoursFileFault) (sound more : List HoursRow)
-      (faults others : List HoursFileFault) (found : List Restriction) → faults ≡ [] → IsRow number row a
+      (faults others : List HoursFileFault) (found : List Restriction) → faults ≡ [] → IsRow how number row a
       → sound ≡ sound_of a ++ more → faults ≡ faults_of a ++ others → IsTranslation sound found
       → ((rest : List Restriction) → others ≡ [] → IsTranslation more rest → HasRecords (number + 1) (length rows) rest)
       → HasRecords number (length (row ∷ rows)) found
@@ -94,7 +96,7 @@ module _ (stands : (domain : Domain) → StandsFor (canonical (domain_tree domai
       let no : why ∷ others ≡ [] = sym f ∙ none in absurd cc
 
   each_record : (number : ℕ) (rows : List Fields) (sound : List HoursRow) (faults : List HoursFileFault)
-      (found : List Restriction) → faults ≡ [] → AreEach number rows sound faults → IsTranslation sound found
+      (found : List Restriction) → faults ≡ [] → AreEach how number rows sound faults → IsTranslation sound found
       → HasRecords number (length rows) found
   each_record number [] sound faults found none each t =
       let nil : IsTranslation [] found = subst (λ (l : List HoursRow). IsTranslation l found) each.0 t in
@@ -105,7 +107,7 @@ module _ (stands : (domain : Domain) → StandsFor (canonical (domain_tree domai
 
   module _ (accepted : (v : Version) (rows : List Fields) (found : List Restriction) → AreSoundRows v rows found
       → length (text_of (migrated found)) ≤ most_file_bytes → IsFile (text_of (migrated found)) (Ok found)) where
-    rows_accepted : (rows : List Fields) (sound : List HoursRow) (found : List Restriction) → AreRows rows sound []
+    rows_accepted : (rows : List Fields) (sound : List HoursRow) (found : List Restriction) → AreRows how rows sound []
         → IsTranslation sound found → length (text_of (migrated found)) ≤ most_file_bytes
         → IsFile (text_of (migrated found)) (Ok found)
     rows_accepted rows sound found (inl p) t fits =
@@ -117,14 +119,14 @@ module _ (stands : (domain : Domain) → StandsFor (canonical (domain_tree domai
         let l = ap length p.whole ∙ length-append p.listed (fault.TooManyRows ∷ []) in
         absurd (omega arith)
 
-    table_accepted : (text : List Fields) (sound : List HoursRow) (found : List Restriction) → AreTable text sound []
+    table_accepted : (text : List Fields) (sound : List HoursRow) (found : List Restriction) → AreTable how text sound []
         → IsTranslation sound found → length (text_of (migrated found)) ≤ most_file_bytes
         → IsFile (text_of (migrated found)) (Ok found)
     table_accepted text sound found (inl p) t fits = rows_accepted p.0 sound found p.2 t fits
     table_accepted text sound found (inr p) t fits = absurd (let l = ap length p.2 in omega arith)
 
     -- the text that is put is a record file of just these restrictions
-    pub file_accepted : (bytes : List ℕ) (sound : List HoursRow) (found : List Restriction) → AreOfFile bytes sound []
+    pub file_accepted : (bytes : List ℕ) (sound : List HoursRow) (found : List Restriction) → AreOfFile how bytes sound []
         → IsTranslation sound found → length (text_of (migrated found)) ≤ most_file_bytes
         → IsFile (text_of (migrated found)) (Ok found)
     file_accepted bytes sound found (inl p) t fits =

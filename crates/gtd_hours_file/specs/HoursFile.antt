@@ -1,12 +1,13 @@
--- What a file of hours is: its rows, or all its faults.
+-- What a file of hours is, whose texts are read strictly or loosely: its rows, or all its faults.
 use Rattle.std.specs.Prelude.{◌≡◌, ◌≢◌, ◌<◌, ◌≤◌, ◌⊎◌, ℕ, ◌+◌, List, [], ◌∷◌, ◌++◌, length, codes, Result, Ok, Err, Option}
 use Rattle.std.specs.Prelude.{Some, None, MatchOption}
 use Rattle.csv.specs.Reading.{default_config, records, strip_bom}
 use Rattle.gtd_core.specs.Limits.{most_basic_domains, most_file_bytes, most_rows}
-use Rattle.gtd_hours_grammar.specs.Faults.{IsFirstFault}
-use Rattle.gtd_hours_text.specs.Standing.{StandsFor}
 use Rattle.gtd_hours.specs.Cost.{hours_cost}
-use Rattle.gtd_hours.specs.declared.hours.Hours.{Hours}
+use Rattle.gtd_hours_loose.specs.Manners.{IsFaultIn, IsReadingIn}
+use Rattle.gtd_hours_loose.specs.declared.manner.Manner.{Manner}
+use Rattle.gtd_hours_loose.specs.declared.reader.LooseFault.TheVariants as loose
+use Rattle.gtd_hours_loose.specs.declared.reader.LooseHours.{LooseHours}
 use Rattle.gtd_records.specs.Columns.{Fields, IsOrdered, closed_of, number_of, vehicles_of}
 use Rattle.gtd_records.specs.declared.direction.Closed.{Closed}
 use Rattle.gtd_records.specs.declared.vehicles.Vehicles.{Vehicles}
@@ -14,42 +15,49 @@ use Rattle.gtd_records.specs.declared.vehicles.Version.TheVariants as version
 use Rattle.gtd_hours_file.specs.declared.fault.HoursFileFault.{HoursFileFault}
 use Rattle.gtd_hours_file.specs.declared.fault.HoursFileFault.TheVariants as fault
 use Rattle.gtd_hours_file.specs.declared.row.HoursRow.{HoursRow}
+use Rattle.gtd_hours_file.specs.declared.row.RowHours.{RowHours}
 
--- what is wrong with a text of hours in the row with this number: its first fault; or it stands for hours whose domain has
--- too many basic domains
-abbrev pub IsHoursFault : ℕ → List ℕ → HoursFileFault → Type 0
-IsHoursFault row text (fault.Hours at why) = (at ≡ row) × IsFirstFault text why
-IsHoursFault row text (fault.TooMany at) =
-    (at ≡ row) × (hours : Hours) × StandsFor text hours × (most_basic_domains < hours_cost hours)
-IsHoursFault row text why = ⊥
+-- what is wrong with a text of hours in the row with this number: its first fault; or hours are read of it whose domain has too
+-- many basic domains
+abbrev pub IsHoursFault : Manner → ℕ → List ℕ → HoursFileFault → Type 0
+IsHoursFault how row text (fault.Hours at why) = (at ≡ row) × IsFaultIn how text (loose.Hours why)
+IsHoursFault how row text (fault.Ambiguous at place) = (at ≡ row) × IsFaultIn how text (loose.Ambiguous place)
+IsHoursFault how row text (fault.TooMany at) =
+    (at ≡ row) × (read : LooseHours) × IsReadingIn how text read × (most_basic_domains < hours_cost read.hours)
+IsHoursFault how row text why = ⊥
 
--- The last column of a row: no hours if it is empty, and otherwise hours that its bytes stand for, whose domain has few
--- enough basic domains; or what is wrong with them.
-abbrev pub IsHoursColumn : ℕ → List ℕ → Result (Option Hours) HoursFileFault → Type 0
-IsHoursColumn row [] answer = answer ≡ Ok None
-IsHoursColumn row (b ∷ text) (Ok None) = ⊥
-IsHoursColumn row (b ∷ text) (Ok (Some hours)) = StandsFor (b ∷ text) hours × (hours_cost hours ≤ most_basic_domains)
-IsHoursColumn row (b ∷ text) (Err why) = IsHoursFault row (b ∷ text) why
+-- the text, and the hours that are read of it, whose domain has few enough basic domains
+pub record IsHoursOf (how : Manner) (text : List ℕ) (given : RowHours) : Type 0 where
+  pub kept : given.text.items ≡ text
+  pub reads : IsReadingIn how text given.read
+  pub few : hours_cost given.read.hours ≤ most_basic_domains
+
+-- The last column of a row: no hours if it is empty, and otherwise those of its bytes; or what is wrong with them.
+abbrev pub IsHoursColumn : Manner → ℕ → List ℕ → Result (Option RowHours) HoursFileFault → Type 0
+IsHoursColumn how row [] answer = answer ≡ Ok None
+IsHoursColumn how row (b ∷ text) (Ok None) = ⊥
+IsHoursColumn how row (b ∷ text) (Ok (Some given)) = IsHoursOf how (b ∷ text) given
+IsHoursColumn how row (b ∷ text) (Err why) = IsHoursFault how row (b ∷ text) why
 
 -- the row of its columns, or the fault of the last
-abbrev pub with_hours : ℕ → Closed → Vehicles → Result (Option Hours) HoursFileFault → Result HoursRow HoursFileFault
+abbrev pub with_hours : ℕ → Closed → Vehicles → Result (Option RowHours) HoursFileFault → Result HoursRow HoursFileFault
 with_hours element closed vehicles (Ok hours) =
     Ok (record { element = element; closed = closed; vehicles = vehicles; hours = hours })
 with_hours element closed vehicles (Err why) = Err why
 
 -- four columns, read from the left
-abbrev pub IsFullRow : ℕ → List ℕ → List ℕ → List ℕ → List ℕ → Result HoursRow HoursFileFault → Type 0
-IsFullRow row element closed vehicles hours answer =
+abbrev pub IsFullRow : Manner → ℕ → List ℕ → List ℕ → List ℕ → List ℕ → Result HoursRow HoursFileFault → Type 0
+IsFullRow how row element closed vehicles hours answer =
     MatchOption (number_of element) (answer ≡ Err (fault.Element row)) (λ x.
     MatchOption (closed_of closed) (answer ≡ Err (fault.Direction row)) (λ c.
     MatchOption (vehicles_of version.Two vehicles) (answer ≡ Err (fault.Vehicle row)) (λ named.
-    (types : Vehicles) × (read : Result (Option Hours) HoursFileFault)
-    × IsOrdered named types × IsHoursColumn row hours read × (answer ≡ with_hours x c types read))))
+    (types : Vehicles) × (read : Result (Option RowHours) HoursFileFault)
+    × IsOrdered named types × IsHoursColumn how row hours read × (answer ≡ with_hours x c types read))))
 
 -- the row with this number says this, or has this first fault
-abbrev pub IsRow : ℕ → Fields → Result HoursRow HoursFileFault → Type 0
-IsRow row (element ∷ closed ∷ vehicles ∷ hours ∷ []) answer = IsFullRow row element closed vehicles hours answer
-IsRow row _ answer = answer ≡ Err (fault.FieldCount row)
+abbrev pub IsRow : Manner → ℕ → Fields → Result HoursRow HoursFileFault → Type 0
+IsRow how row (element ∷ closed ∷ vehicles ∷ hours ∷ []) answer = IsFullRow how row element closed vehicles hours answer
+IsRow how row _ answer = answer ≡ Err (fault.FieldCount row)
 
 -- what a row adds to the rows that are sound, and to the faults
 abbrev pub sound_of : Result HoursRow HoursFileFault → List HoursRow
@@ -61,45 +69,46 @@ faults_of (Ok row) = []
 faults_of (Err why) = why ∷ []
 
 -- The sound rows and the faults of the others, each in their order, if the first row has this number.
-abbrev pub AreEach : ℕ → List Fields → List HoursRow → List HoursFileFault → Type 0
-AreEach number [] sound faults = (sound ≡ []) × (faults ≡ [])
-AreEach number (row ∷ rows) sound faults =
+abbrev pub AreEach : Manner → ℕ → List Fields → List HoursRow → List HoursFileFault → Type 0
+AreEach how number [] sound faults = (sound ≡ []) × (faults ≡ [])
+AreEach how number (row ∷ rows) sound faults =
     (answer : Result HoursRow HoursFileFault) × (more : List HoursRow) × (others : List HoursFileFault)
-    × IsRow number row answer × AreEach (number + 1) rows more others
+    × IsRow how number row answer × AreEach how (number + 1) rows more others
     × (sound ≡ sound_of answer ++ more) × (faults ≡ faults_of answer ++ others)
 
 -- there is a row too many: what the rows before it say, and then `TooManyRows`
-pub record AreTooMany (rows : List Fields) (sound : List HoursRow) (faults : List HoursFileFault) : Type 0 where
+pub record AreTooMany (how : Manner) (rows : List Fields) (sound : List HoursRow) (faults : List HoursFileFault) : Type 0 where
   pub before : List Fields
   pub row : Fields
   pub after : List Fields
   pub split : rows ≡ before ++ row ∷ after
   pub many : length before ≡ most_rows
   pub listed : List HoursFileFault
-  pub each : AreEach 1 before sound listed
+  pub each : AreEach how 1 before sound listed
   pub whole : faults ≡ listed ++ (fault.TooManyRows ∷ [])
 
 -- the rows after the header
-abbrev pub AreRows : List Fields → List HoursRow → List HoursFileFault → Type 0
-AreRows rows sound faults = ((length rows ≤ most_rows) × AreEach 1 rows sound faults) ⊎ AreTooMany rows sound faults
+abbrev pub AreRows : Manner → List Fields → List HoursRow → List HoursFileFault → Type 0
+AreRows how rows sound faults =
+    ((length rows ≤ most_rows) × AreEach how 1 rows sound faults) ⊎ AreTooMany how rows sound faults
 
 -- the fields of the header
 abbrev pub header : Fields
 header = codes "element" ∷ codes "direction" ∷ codes "vehicles" ∷ codes "hours" ∷ []
 
 -- the records of a text: the first is the header, and the others are rows
-abbrev pub AreTable : List Fields → List HoursRow → List HoursFileFault → Type 0
-AreTable text sound faults =
-    ((rows : List Fields) × (text ≡ header ∷ rows) × AreRows rows sound faults)
+abbrev pub AreTable : Manner → List Fields → List HoursRow → List HoursFileFault → Type 0
+AreTable how text sound faults =
+    ((rows : List Fields) × (text ≡ header ∷ rows) × AreRows how rows sound faults)
     ⊎ (((rows : List Fields) → text ≡ header ∷ rows → ⊥) × (sound ≡ []) × (faults ≡ fault.Header ∷ []))
 
 -- The sound rows of a file's bytes, and all its faults. A byte order mark at the front is not part of the text.
-abbrev pub AreOfFile : List ℕ → List HoursRow → List HoursFileFault → Type 0
-AreOfFile bytes sound faults =
-    ((length bytes ≤ most_file_bytes) × AreTable (records default_config (strip_bom bytes)) sound faults)
+abbrev pub AreOfFile : Manner → List ℕ → List HoursRow → List HoursFileFault → Type 0
+AreOfFile how bytes sound faults =
+    ((length bytes ≤ most_file_bytes) × AreTable how (records default_config (strip_bom bytes)) sound faults)
     ⊎ ((most_file_bytes < length bytes) × (sound ≡ []) × (faults ≡ fault.TooLarge ∷ []))
 
 -- The bytes are a file of hours with these rows; or these are all its faults, at least one.
-abbrev pub IsHoursFile : List ℕ → Result (List HoursRow) (List HoursFileFault) → Type 0
-IsHoursFile bytes (Ok rows) = AreOfFile bytes rows []
-IsHoursFile bytes (Err faults) = (sound : List HoursRow) × AreOfFile bytes sound faults × (faults ≢ [])
+abbrev pub IsHoursFile : Manner → List ℕ → Result (List HoursRow) (List HoursFileFault) → Type 0
+IsHoursFile how bytes (Ok rows) = AreOfFile how bytes rows []
+IsHoursFile how bytes (Err faults) = (sound : List HoursRow) × AreOfFile how bytes sound faults × (faults ≢ [])

@@ -25,6 +25,7 @@ fault_text (fault.Direction row) = codes "row " ++ decimal row ++ codes ": Direc
 fault_text (fault.Vehicle row) = codes "row " ++ decimal row ++ codes ": Vehicle"
 fault_text (fault.Hours row why) =
     codes "row " ++ decimal row ++ codes ": Hours " ++ kind_name why.kind ++ codes " at " ++ decimal why.place
+fault_text (fault.Ambiguous row place) = codes "row " ++ (decimal row ++ (codes ": Hours Ambiguous at " ++ decimal place))
 fault_text (fault.TooMany row) = codes "row " ++ decimal row ++ codes ": Hours TooMany at 0"
 fault_text fault.TooManyRows = codes "row 65537: TooManyRows"
 
@@ -41,6 +42,7 @@ IsSnippet bytes (fault.Element row) shown = IsOfField (field_of bytes row 0) 0 s
 IsSnippet bytes (fault.Direction row) shown = IsOfField (field_of bytes row 1) 0 shown
 IsSnippet bytes (fault.Vehicle row) shown = IsOfField (field_of bytes row 2) 0 shown
 IsSnippet bytes (fault.Hours row why) shown = IsOfField (field_of bytes row 3) why.place shown
+IsSnippet bytes (fault.Ambiguous row place) shown = IsOfField (field_of bytes row 3) place shown
 IsSnippet bytes (fault.TooMany row) shown = IsOfField (field_of bytes row 3) 0 shown
 IsSnippet bytes fault.Header shown = IsOfHeader (first_line bytes) expected_text None shown
 IsSnippet bytes why shown = shown ≡ snippet.Nothing
@@ -54,6 +56,10 @@ accepted_hours kind.Years = codes "a last year, such as 2025-2045/2"
 accepted_hours kind.Unexpected = codes "rules with ; between them: years, weeks or dates, then weekdays, then times or off"
 accepted_hours kind.Incomplete = codes "more: the second part of a range, or what follows a sign"
 
+-- what hours may have where people read them in two ways
+abbrev pub accepted_once : List ℕ
+accepted_once = codes "what is read in one way: weekdays in English, and times such as 08:00"
+
 abbrev pub accepted_size : List ℕ
 accepted_size = codes "hours that take at most 128 basic domains"
 
@@ -64,6 +70,7 @@ accepted (fault.Element row) = Some accepted_element
 accepted (fault.Direction row) = Some accepted_direction
 accepted (fault.Vehicle row) = Some accepted_types
 accepted (fault.Hours row why) = Some (accepted_hours why.kind)
+accepted (fault.Ambiguous row place) = Some accepted_once
 accepted (fault.TooMany row) = Some accepted_size
 accepted fault.TooManyRows = Some accepted_rows
 accepted fault.TooLarge = Some accepted_bytes
@@ -80,6 +87,7 @@ row_of (fault.Element row) = Some row
 row_of (fault.Direction row) = Some row
 row_of (fault.Vehicle row) = Some row
 row_of (fault.Hours row why) = Some row
+row_of (fault.Ambiguous row place) = Some row
 row_of (fault.TooMany row) = Some row
 row_of fault.TooManyRows = Some (most_rows + 1)
 row_of why = None

@@ -15,7 +15,7 @@ use Rattle.gtd_hours_file.specs.declared.untranslated.Untranslated.TheVariants a
 
 -- the hours of the row, if it has some, take few enough basic domains
 abbrev pub IsWithin : HoursRow → Type 0
-IsWithin row = IfSome row.hours (λ hours. hours_cost hours ≤ most_basic_domains)
+IsWithin row = IfSome row.hours (λ given. hours_cost given.read.hours ≤ most_basic_domains)
 
 -- the line of a restriction that the row is translated to
 abbrev pub IsLineOf : HoursRow → List ℕ → Type 0

@@ -1,20 +1,36 @@
--- What reading a column or a row gave.
+-- What reading a text of hours, a column or a row gave.
 use Rattle.std.specs.Prelude.{ℕ, List, Option, Result, Ok, Err, ⊤}
-use Rattle.gtd_hours.specs.declared.hours.Hours.{Hours}
+use Rattle.gtd_hours_loose.specs.declared.manner.Manner.{Manner}
+use Rattle.gtd_hours_loose.specs.declared.reader.LooseFault.TheVariants as loose
+use Rattle.gtd_hours_loose.specs.declared.reader.LooseReadFault.{LooseReadFault}
+use Rattle.gtd_hours_loose.specs.declared.reader.LooseReadFault.TheVariants as reading
 use Rattle.gtd_records.specs.Columns.{Fields}
-use Rattle.gtd_hours_file.specs.HoursFile.{IsHoursColumn, IsRow}
+use Rattle.gtd_hours_file.specs.HoursFile.{IsHoursColumn, IsHoursFault, IsRow}
+use Rattle.gtd_hours_file.specs.declared.fault.HoursFileFault.TheVariants as fault
 use Rattle.gtd_hours_file.specs.declared.row.HoursRow.{HoursRow}
+use Rattle.gtd_hours_file.specs.declared.row.RowHours.{RowHours}
 use Rattle.gtd_hours_file.specs.declared.row.RowStop.{RowStop}
 use Rattle.gtd_hours_file.specs.declared.row.RowStop.TheVariants as stop
 
+-- why a text is not read, in the row with this number
+abbrev pub unread : ℕ → LooseReadFault → RowStop
+unread row (reading.Fault (loose.Hours why)) = stop.Fault (fault.Hours row why)
+unread row (reading.Fault (loose.Ambiguous place)) = stop.Fault (fault.Ambiguous row place)
+unread row reading.NoMemory = stop.NoMemory
+
+-- the fault of a text of hours in the row with this number, if memory was not refused
+abbrev pub IsTextStop : Manner → ℕ → List ℕ → RowStop → Type 0
+IsTextStop how row text (stop.Fault why) = IsHoursFault how row text why
+IsTextStop how row text stop.NoMemory = ⊤
+
 -- what the last column says in the row with this number, if memory was not refused
-abbrev pub IsColumnRead : ℕ → List ℕ → Result (Option Hours) RowStop → Type 0
-IsColumnRead row text (Ok hours) = IsHoursColumn row text (Ok hours)
-IsColumnRead row text (Err (stop.Fault why)) = IsHoursColumn row text (Err why)
-IsColumnRead row text (Err stop.NoMemory) = ⊤
+abbrev pub IsColumnRead : Manner → ℕ → List ℕ → Result (Option RowHours) RowStop → Type 0
+IsColumnRead how row text (Ok hours) = IsHoursColumn how row text (Ok hours)
+IsColumnRead how row text (Err (stop.Fault why)) = IsHoursColumn how row text (Err why)
+IsColumnRead how row text (Err stop.NoMemory) = ⊤
 
 -- and what the row says
-abbrev pub IsRowRead : ℕ → Fields → Result HoursRow RowStop → Type 0
-IsRowRead row fields (Ok found) = IsRow row fields (Ok found)
-IsRowRead row fields (Err (stop.Fault why)) = IsRow row fields (Err why)
-IsRowRead row fields (Err stop.NoMemory) = ⊤
+abbrev pub IsRowRead : Manner → ℕ → Fields → Result HoursRow RowStop → Type 0
+IsRowRead how row fields (Ok found) = IsRow how row fields (Ok found)
+IsRowRead how row fields (Err (stop.Fault why)) = IsRow how row fields (Err why)
+IsRowRead how row fields (Err stop.NoMemory) = ⊤

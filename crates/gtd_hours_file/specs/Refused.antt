@@ -1,5 +1,5 @@
 -- What is shown below the line that refuses a text.
-use Rattle.std.specs.Prelude.{◌++◌, ℕ, List, codes, option_map}
+use Rattle.std.specs.Prelude.{◌++◌, ℕ, List, option_map}
 use Rattle.gtd_faults.specs.Snippet.{snippet_text}
 use Rattle.gtd_faults.specs.Expected.{expected_line}
 use Rattle.gtd_hours_file.specs.declared.refused.RefusalSnippet.{RefusalSnippet}
@@ -7,7 +7,3 @@ use Rattle.gtd_hours_file.specs.declared.refused.RefusalSnippet.{RefusalSnippet}
 -- its lines: the stretch of the text with its caret, and what is accepted there
 abbrev pub refusal_snippet : RefusalSnippet → List ℕ
 refusal_snippet shown = snippet_text shown.snippet ++ expected_line (option_map (λ text. text.now) shown.accepted)
-
--- what hours may have where people read them in two ways
-abbrev pub accepted_once : List ℕ
-accepted_once = codes "what is read in one way: weekdays in English, and times such as 08:00"

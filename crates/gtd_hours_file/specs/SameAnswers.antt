@@ -1,15 +1,15 @@
 -- Answers of files of hours that say the same. Hours are the same if they are open at the same seconds.
 use Rattle.std.specs.Prelude.{◌≡◌, ◌↔◌, ℤ, List, [], ◌∷◌, Option, Some, None, Result, Ok, Err, ⊤}
 use Rattle.gtd_hours.specs.Opening.{IsOpen}
-use Rattle.gtd_hours.specs.declared.hours.Hours.{Hours}
 use Rattle.gtd_records.specs.Closing.{HoldsAt, Restriction}
 use Rattle.gtd_hours_file.specs.declared.fault.HoursFileFault.{HoursFileFault}
 use Rattle.gtd_hours_file.specs.declared.row.HoursRow.{HoursRow}
+use Rattle.gtd_hours_file.specs.declared.row.RowHours.{RowHours}
 
 -- both rows have no hours, or both have some, which are open at the same seconds
-abbrev pub AreSameHours : Option Hours → Option Hours → Type 0
+abbrev pub AreSameHours : Option RowHours → Option RowHours → Type 0
 AreSameHours None None = ⊤
-AreSameHours (Some one) (Some other) = (second : ℤ) → IsOpen one second ↔ IsOpen other second
+AreSameHours (Some one) (Some other) = (second : ℤ) → IsOpen one.read.hours second ↔ IsOpen other.read.hours second
 AreSameHours one other = ⊥
 
 -- the same element, directions and vehicle types, and the same hours

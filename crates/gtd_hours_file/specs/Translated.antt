@@ -5,16 +5,16 @@ use Rattle.gtd_core.specs.Trees.{Tree}
 use Rattle.gtd_core.specs.declared.domain.Domain.{Domain}
 use Rattle.gtd_eval.specs.Membership.{InDomain}
 use Rattle.gtd_hours.specs.Opening.{IsOpen}
-use Rattle.gtd_hours.specs.declared.hours.Hours.{Hours}
 use Rattle.gtd_records.specs.Closing.{ClosesDirection, Restriction, Serves}
 use Rattle.gtd_records.specs.declared.direction.Direction.{Direction}
 use Rattle.gtd_hours_file.specs.declared.row.HoursRow.{HoursRow}
+use Rattle.gtd_hours_file.specs.declared.row.RowHours.{RowHours}
 
 -- a domain that contains exactly the seconds at which the hours are open; none if there are no hours
-abbrev pub IsDomainOf : Option Hours → Option Tree → Type 0
+abbrev pub IsDomainOf : Option RowHours → Option Tree → Type 0
 IsDomainOf None tree = tree ≡ None
-IsDomainOf (Some hours) tree =
-    (domain : Domain) × (tree ≡ Some (domain_tree domain)) × ((s : ℤ) → InDomain domain s ↔ IsOpen hours s)
+IsDomainOf (Some given) tree =
+    (domain : Domain) × (tree ≡ Some (domain_tree domain)) × ((s : ℤ) → InDomain domain s ↔ IsOpen given.read.hours s)
 
 -- the restriction has the row's element, directions and vehicle types, and a domain of its hours
 pub record IsTranslated (row : HoursRow) (r : Restriction) : Type 0 where
@@ -35,4 +35,4 @@ pub record RowCloses (element : ℕ) (direction : Direction) (vehicle : ℕ) (se
   pub names : row.element ≡ element
   pub closes : ClosesDirection row.closed direction
   pub serves : Serves row.vehicles vehicle
-  pub holds : IfSome row.hours (λ hours. IsOpen hours second)
+  pub holds : IfSome row.hours (λ given. IsOpen given.read.hours second)

@@ -20,6 +20,8 @@ pub enum HoursFileFault {
     Vehicle { row: u32 },
     /// A row's fourth field is neither empty nor opening hours.
     Hours { row: u32, fault: HoursFault },
+    /// People read the opening hours of a row in two ways, at a place: so many bytes before it.
+    Ambiguous { row: u32, place: usize },
     /// The hours of a row take more than 128 basic domains.
     TooMany { row: u32 },
     /// There are more than 65,536 rows.

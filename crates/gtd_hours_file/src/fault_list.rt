@@ -24,6 +24,7 @@ fn row_of(fault: HoursFileFault) -> Option<u32>
         HoursFileFault::Direction { row } => Some(row),
         HoursFileFault::Vehicle { row } => Some(row),
         HoursFileFault::Hours { row, .. } => Some(row),
+        HoursFileFault::Ambiguous { row, .. } => Some(row),
         HoursFileFault::TooMany { row } => Some(row),
         HoursFileFault::TooManyRows => Some(MOST_ROWS + 1),
     }
@@ -46,6 +47,7 @@ fn fault_snippet<'a>(bytes: &'a [u8], rows: &'a Rows<'_>, fault: HoursFileFault)
         HoursFileFault::Direction { .. } => rows.field(1, 0),
         HoursFileFault::Vehicle { .. } => rows.field(2, 0),
         HoursFileFault::Hours { fault, .. } => rows.field(3, fault.place),
+        HoursFileFault::Ambiguous { place, .. } => rows.field(3, place),
         HoursFileFault::TooMany { .. } => rows.field(3, 0),
         _ => Snippet::Nothing,
     }

@@ -11,6 +11,7 @@ use crate::fault::HoursFileFault;
 use crate::row::{HoursRow, RowStop, read_row};
 use csv::ByteRecord;
 use gtd_core::limits::MOST_FILE_BYTES;
+use gtd_hours_loose::Manner;
 use gtd_records::{RowTaker, RowsEnd, four_columns, take_rows};
 use std::alloc::{AllocError, Global};
 
@@ -50,12 +51,13 @@ fn add_row(
     found: &mut Found,
     number: u32,
     row: &ByteRecord,
+    manner: Manner,
 ) -> Result<(), AllocError>
-    ensures { OnOk result ((answer : Result HoursRow HoursFileFault) × IsRow number (fields_of row.now) answer
+    ensures { OnOk result ((answer : Result HoursRow HoursFileFault) × IsRow manner number (fields_of row.now) answer
         × (found.new.sound.items ≡ found.old.sound.items ++ sound_of answer)
         × (found.new.faults.items ≡ found.old.faults.items ++ faults_of answer)) }
 {
-    match read_row(alloc, number, row) {
+    match read_row(alloc, number, row, manner) {
         Ok(read) => found.sound.push(read)?,
         Err(RowStop::Fault(why)) => found.faults.push(why)?,
         Err(RowStop::NoMemory) => return Err(AllocError),
@@ -80,6 +82,7 @@ fn is_header(row: &ByteRecord) -> bool
 #[derive(Drop)]
 pub(crate) struct Reading {
     alloc: Global,
+    pub(crate) manner: Manner,
     pub(crate) found: Found,
 }
 
@@ -95,18 +98,19 @@ impl RowTaker for Reading {
     }
 
     fn take_row(&mut self, number: u32, row: &ByteRecord) -> Result<bool, AllocError> {
-        add_row(self.alloc, &mut self.found, number, row)?;
+        add_row(self.alloc, &mut self.found, number, row, self.manner)?;
         Ok(true)
     }
 }
 
 // What the records of a file's bytes say, if there are not too many bytes.
-fn read_table(alloc: Global, bytes: &[u8]) -> Result<Found, AllocError>
+fn read_table(alloc: Global, bytes: &[u8], manner: Manner) -> Result<Found, AllocError>
     ensures { IfOk result (λ found.
-        AreTable (records default_config (strip_bom bytes.now)) found.sound.items found.faults.items) }
+        AreTable manner (records default_config (strip_bom bytes.now)) found.sound.items found.faults.items) }
 {
     let mut reading = Reading {
         alloc,
+        manner,
         found: nothing(alloc),
     };
     match take_rows(alloc, bytes, &mut reading)? {
@@ -120,12 +124,12 @@ fn read_table(alloc: Global, bytes: &[u8]) -> Result<Found, AllocError>
     }
 }
 
-/// What a file with these bytes says.
-pub(crate) fn read_file(alloc: Global, bytes: &[u8]) -> Result<Found, AllocError>
-    ensures { IfOk result (λ found. AreOfFile bytes.now found.sound.items found.faults.items) }
+/// What a file with these bytes says, whose hours are read in this manner.
+pub(crate) fn read_file(alloc: Global, bytes: &[u8], manner: Manner) -> Result<Found, AllocError>
+    ensures { IfOk result (λ found. AreOfFile manner bytes.now found.sound.items found.faults.items) }
 {
     if bytes.len() > MOST_FILE_BYTES {
         return alone(alloc, HoursFileFault::TooLarge);
     }
-    read_table(alloc, bytes)
+    read_table(alloc, bytes, manner)
 }

@@ -4,7 +4,8 @@ ghost use Rattle.std.specs.Prelude.{◌≡◌, ◌+◌, ◌*◌, ◌≤◌, ◌�
 ghost use Rattle.gtd_core.specs.Limits.{most_file_bytes};
 ghost use Rattle.gtd_hours.specs.Opening.{IsOpen};
 ghost use Rattle.gtd_hours.specs.declared.hours.Hours.{Hours};
-ghost use Rattle.gtd_hours_text.specs.Room.{HasRoom};
+ghost use Rattle.gtd_hours_loose.specs.declared.manner.Manner.{Manner};
+ghost use Rattle.gtd_hours_text.specs.Room.{HasRoom, HasVectors};
 ghost use Rattle.gtd_migrate.specs.Migrated.{migrated};
 ghost use Rattle.gtd_records.specs.Closing.{Closes, Restriction};
 ghost use Rattle.gtd_records.specs.File.{IsFile};
@@ -17,8 +18,9 @@ ghost use Rattle.gtd_hours_file.specs.Translated.{IsTranslated, IsTranslation, R
 ghost use Rattle.gtd_hours_file.specs.Warnings.{some_opens};
 ghost use Rattle.gtd_hours_file.specs.declared.row.HoursRow.{HoursRow};
 
-use gtd_hours_grammar::laws::one_first_fault;
-use gtd_hours_text::laws::{each_text, one_meaning};
+use gtd_hours_loose::Manner;
+use gtd_hours_loose::laws::one_reading;
+use gtd_hours_text::laws::each_text;
 use gtd_migrate::laws::migrated_is_accepted;
 use gtd_text::laws::canonical_text_of_domain;
 
@@ -35,7 +37,8 @@ pub fn closes_as_the_hours_say()
 /// The text that is put for a file of hours is a record file of exactly the restrictions that its rows are translated to, if
 /// it has no more bytes than a record file may have.
 pub fn text_is_a_record_file()
-    ensures accepted { (bytes : List ℕ) (rows : List HoursRow) (found : List Restriction) → IsHoursFile bytes (Ok rows)
+    ensures accepted { (how : Manner) (bytes : List ℕ) (rows : List HoursRow) (found : List Restriction)
+        → IsHoursFile how bytes (Ok rows)
         → IsTranslation rows found → length (text_of (migrated found)) ≤ most_file_bytes
         → IsFile (text_of (migrated found)) (Ok found) }
 {
@@ -43,23 +46,23 @@ pub fn text_is_a_record_file()
     canonical_text_of_domain();
 }
 
-/// The bytes of a file of hours have one answer: all that have one are at fault in the same way, or have the same rows, whose
-/// hours are open at the same seconds. Such rows are translated to restrictions of the same elements, directions and vehicle
-/// types, whose domains contain the same seconds.
+/// The bytes of a file of hours have one answer in a manner of reading: all that have one are at fault in the same way, or have
+/// the same rows, whose hours are open at the same seconds. Such rows are translated to restrictions of the same elements,
+/// directions and vehicle types, whose domains contain the same seconds.
 pub fn one_answer()
-    ensures answer { (bytes : List ℕ) (one other : Result (List HoursRow) (List HoursFileFault)) →
-        IsHoursFile bytes one → IsHoursFile bytes other → IsSameAnswer one other }
+    ensures answer { (how : Manner) (bytes : List ℕ) (one other : Result (List HoursRow) (List HoursFileFault)) →
+        IsHoursFile how bytes one → IsHoursFile how bytes other → IsSameAnswer one other }
     ensures restrictions { (ones others : List HoursRow) (found also : List Restriction) → AreSameRows ones others
         → IsTranslation ones found → IsTranslation others also → AreSameRestrictions found also }
 {
-    one_meaning();
-    one_first_fault();
+    one_reading();
 }
 
-/// Each file of hours has an answer, where memory has room for the hours of its texts: its rows, or all its faults.
+/// Each file of hours whose texts are read as they are written has an answer, where memory has room for these and their hours:
+/// its rows, or all its faults.
 pub fn each_file()
-    ensures some { HasRoom (20 * most_file_bytes + 4) → (bytes : List ℕ) →
-        (answer : Result (List HoursRow) (List HoursFileFault)) × IsHoursFile bytes answer }
+    ensures some { HasRoom (20 * most_file_bytes + 4) → HasVectors ℕ most_file_bytes → (bytes : List ℕ) →
+        (answer : Result (List HoursRow) (List HoursFileFault)) × IsHoursFile Manner.Strict bytes answer }
 {
     each_text();
 }

@@ -4,7 +4,7 @@ ghost use Rattle.std.specs.Prelude.{◌≡◌, Some, get_or, option_map};
 ghost use Rattle.gtd_faults.specs.Snippet.{IsOfField};
 ghost use Rattle.gtd_faults.specs.Expected as of_records;
 ghost use Rattle.gtd_hours_file.specs.Listing as spec;
-ghost use Rattle.gtd_hours_file.specs.Refused.{accepted_once, refusal_snippet};
+ghost use Rattle.gtd_hours_file.specs.Refused.{refusal_snippet};
 
 use crate::fault::HoursFileFault;
 use crate::words::accepted;
@@ -82,11 +82,11 @@ pub fn hours_snippet(text: &str, fault: HoursFault) -> RefusalSnippet<'_>
 /// What is shown below the line that refuses a text that people read in two ways at this place.
 pub fn ambiguous_snippet(text: &str, place: usize) -> RefusalSnippet<'_>
     ensures snippet { IsOfField (Some text.now) place result.snippet }
-    ensures accepted { option_map (λ words. words.now) result.accepted ≡ Some accepted_once }
+    ensures accepted { option_map (λ words. words.now) result.accepted ≡ spec.accepted (HoursFileFault.Ambiguous 1 place) }
 {
     RefusalSnippet {
         snippet: around(text, place),
-        accepted: Some("what is read in one way: weekdays in English, and times such as 08:00"),
+        accepted: accepted(HoursFileFault::Ambiguous { row: 1, place }),
     }
 }
 

@@ -1,19 +1,29 @@
 //! The rows of a file of hours.
 
-ghost use Rattle.std.specs.Prelude.{◌≡◌, IfOk};
+ghost use Rattle.std.specs.Prelude.{◌≡◌, IfErr, IfOk};
 ghost use Rattle.csv.specs.Records.{fields_of};
-ghost use Rattle.gtd_hours_file.specs.Reading.{IsColumnRead, IsRowRead};
+ghost use Rattle.gtd_hours_file.specs.HoursFile.{IsHoursOf};
+ghost use Rattle.gtd_hours_file.specs.Reading as spec;
+ghost use Rattle.gtd_hours_file.specs.Reading.{IsColumnRead, IsRowRead, IsTextStop};
 
 use crate::fault::HoursFileFault;
 use csv::ByteRecord;
 use gtd_core::limits::MOST_BASIC_DOMAINS;
-use gtd_hours::Hours;
 use gtd_hours_domain::cost_of;
-use gtd_hours_text::{HoursTextFault, read_hours};
+use gtd_hours_loose::{LooseFault, LooseHours, LooseReadFault, Manner, read_hours_in};
 use gtd_records::{
     Closed, Vehicles, Version, four_columns, read_closed, read_number, read_vehicles,
 };
 use std::alloc::{AllocError, Global};
+
+/// The hours of a row.
+#[derive(Drop)]
+pub struct RowHours {
+    /// Their text.
+    pub text: Vec<u8>,
+    /// What is read of it.
+    pub read: LooseHours,
+}
 
 /// A row of a file of hours: what it closes, and when.
 #[derive(Drop)]
@@ -25,7 +35,7 @@ pub struct HoursRow {
     /// The vehicle types for which it closes them.
     pub vehicles: Vehicles,
     /// When it closes them: while the hours are open, or always.
-    pub hours: Option<Hours>,
+    pub hours: Option<RowHours>,
 }
 
 /// Why a row is not read.
@@ -48,29 +58,66 @@ impl From<AllocError> for RowStop {
     }
 }
 
+// Why a text of hours is not read, in the row with this number.
+fn unread(number: u32, why: LooseReadFault) -> RowStop
+    ensures { result ≡ spec.unread number why }
+{
+    match why {
+        LooseReadFault::Fault(LooseFault::Hours(fault)) => {
+            RowStop::Fault(HoursFileFault::Hours { row: number, fault })
+        }
+        LooseReadFault::Fault(LooseFault::Ambiguous { place }) => {
+            RowStop::Fault(HoursFileFault::Ambiguous { row: number, place })
+        }
+        LooseReadFault::NoMemory => RowStop::NoMemory,
+    }
+}
+
+// The hours that a text stands for, or its fault in the row with this number.
+fn read_text(alloc: Global, number: u32, text: &[u8], manner: Manner) -> Result<RowHours, RowStop>
+    ensures hours { IfOk result (IsHoursOf manner text.now) }
+    ensures stop { IfErr result (IsTextStop manner number text.now) }
+{
+    let read = match read_hours_in(alloc, text, manner) {
+        Ok(read) => read,
+        Err(why) => return Err(unread(number, why)),
+    };
+    if cost_of(&read.hours) > u32::from(MOST_BASIC_DOMAINS) {
+        return Err(RowStop::Fault(HoursFileFault::TooMany { row: number }));
+    }
+    let mut kept = Vec::new(alloc);
+    match kept.extend_from_slice(text) {
+        Ok(()) => Ok(RowHours { text: kept, read }),
+        Err(_) => Err(RowStop::NoMemory),
+    }
+}
+
 // The hours of a row's last column, which may be empty, or its fault in the row with this number.
-fn read_last(alloc: Global, number: u32, text: &[u8]) -> Result<Option<Hours>, RowStop>
-    ensures { IsColumnRead number text.now result }
+fn read_last(
+    alloc: Global,
+    number: u32,
+    text: &[u8],
+    manner: Manner,
+) -> Result<Option<RowHours>, RowStop>
+    ensures { IsColumnRead manner number text.now result }
 {
     if text.is_empty() {
         return Ok(None);
     }
-    let hours = match read_hours(alloc, text) {
-        Ok(hours) => hours,
-        Err(HoursTextFault::Fault(fault)) => {
-            return Err(RowStop::Fault(HoursFileFault::Hours { row: number, fault }));
-        }
-        Err(HoursTextFault::NoMemory) => return Err(RowStop::NoMemory),
-    };
-    if cost_of(&hours) > u32::from(MOST_BASIC_DOMAINS) {
-        return Err(RowStop::Fault(HoursFileFault::TooMany { row: number }));
+    match read_text(alloc, number, text, manner) {
+        Ok(hours) => Ok(Some(hours)),
+        Err(stop) => Err(stop),
     }
-    Ok(Some(hours))
 }
 
-/// What the row with this number says, or its first fault from the left.
-pub(crate) fn read_row(alloc: Global, number: u32, row: &ByteRecord) -> Result<HoursRow, RowStop>
-    ensures { IsRowRead number (fields_of row.now) result }
+/// What the row with this number says, whose hours are read in this manner, or its first fault from the left.
+pub(crate) fn read_row(
+    alloc: Global,
+    number: u32,
+    row: &ByteRecord,
+    manner: Manner,
+) -> Result<HoursRow, RowStop>
+    ensures { IsRowRead manner number (fields_of row.now) result }
 {
     let Some(columns) = four_columns(row) else {
         return Err(RowStop::Fault(HoursFileFault::FieldCount { row: number }));
@@ -84,7 +131,7 @@ pub(crate) fn read_row(alloc: Global, number: u32, row: &ByteRecord) -> Result<H
     let Some(vehicles) = read_vehicles(alloc, Version::Two, columns.vehicles)? else {
         return Err(RowStop::Fault(HoursFileFault::Vehicle { row: number }));
     };
-    let hours = match read_last(alloc, number, columns.last) {
+    let hours = match read_last(alloc, number, columns.last, manner) {
         Ok(hours) => hours,
         Err(stop) => return Err(stop),
     };

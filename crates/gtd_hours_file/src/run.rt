@@ -1,8 +1,10 @@
 //! The run that translates a file of hours to a record file.
 
-ghost use Rattle.std.specs.Prelude.{◌≡◌, ◌<◌, ℕ, [], List, Some, IfErr, IfOk, IsErrOf, IsTrue, OnOk};
+ghost use Rattle.std.specs.Prelude.{◌≡◌, ◌<◌, ◌≤◌, ℕ, [], List, Some, IfErr, IfOk, IsErrOf, IsTrue, OnOk, length};
+ghost use Rattle.std.specs.List.{All};
+ghost use Rattle.gtd_core.specs.Limits.{most_rows};
 ghost use Rattle.gtd_hours_file.specs.HoursFile.{AreOfFile};
-ghost use Rattle.gtd_hours_file.specs.PuttingRows.{answer_of};
+ghost use Rattle.gtd_hours_file.specs.PuttingRows.{IsWithin, answer_of};
 ghost use Rattle.gtd_hours_file.specs.Warnings as warned;
 ghost use Rattle.gtd_hours_file.specs.Warnings.{IsWarned};
 ghost use Rattle.gtd_hours_file.specs.Run.{HasTranslated, IsRefusal, IsStop, failures_after_putting, failures_after_reading};
@@ -17,6 +19,7 @@ use crate::untranslated::Untranslated;
 use crate::warnings::warnings_of;
 use gtd_core::limits::MOST_FILE_BYTES;
 use gtd_devices::{Input, InputFault, Output, read_whole};
+use gtd_hours_loose::Manner;
 use gtd_report::{Progress, Stop};
 use std::alloc::Global;
 
@@ -45,7 +48,7 @@ fn answer(put: Result<(), Stop>, progress: Progress) -> Result<u64, Untranslated
     }
 }
 
-// Puts what the rows of the file with these bytes are translated to.
+// Puts what these rows are translated to, which may be those of a file with these bytes.
 fn put_sound<O: Output>(
     alloc: Global,
     output: &mut O,
@@ -53,8 +56,10 @@ fn put_sound<O: Output>(
     rows: &[HoursRow],
 ) -> Result<u64, Untranslated>
     requires writable { O.failure_count output.old < u64.MAX }
-    requires file { AreOfFile bytes.now rows.now [] }
-    ensures stands { (path : List ℕ) → HasTranslated path (Some bytes.now) (O.taken output.old) (O.taken output.new) result }
+    requires few { length rows.now ≤ most_rows }
+    requires within { All IsWithin rows.now }
+    ensures stands { (how : Manner) (path : List ℕ) → AreOfFile how bytes.now rows.now []
+        → HasTranslated how path (Some bytes.now) (O.taken output.old) (O.taken output.new) result }
     ensures cause { IfErr result IsStop }
     ensures ended { OnOk result (IsTrue (O.is_ended output.new)) }
     ensures failures { O.failure_count output.new
@@ -68,7 +73,7 @@ fn put_sound<O: Output>(
 // The answer of a run with these warnings.
 fn with_warnings(
     answer: Result<u64, Untranslated>,
-    warnings: String,
+    warnings: Vec<u8>,
 ) -> Result<Translated, Untranslated>
     ensures lines { warned.lines_of result ≡ answer }
     ensures warnings { IfOk result (λ done. done.warnings ≡ warnings) }
@@ -79,7 +84,7 @@ fn with_warnings(
     }
 }
 
-// Puts what the rows of the file with this path and these bytes are translated to, and answers its warnings.
+// Puts what these rows are translated to, and answers their warnings; they may be those of a file with this path and these bytes.
 fn put_warned<O: Output>(
     alloc: Global,
     output: &mut O,
@@ -88,9 +93,11 @@ fn put_warned<O: Output>(
     rows: &[HoursRow],
 ) -> Result<Translated, Untranslated>
     requires writable { O.failure_count output.old < u64.MAX }
-    requires file { AreOfFile bytes.now rows.now [] }
-    ensures stands { HasTranslated path.now (Some bytes.now) (O.taken output.old) (O.taken output.new) (warned.lines_of result) }
-    ensures warned { IsWarned path.now (Some bytes.now) result }
+    requires few { length rows.now ≤ most_rows }
+    requires within { All IsWithin rows.now }
+    ensures stands { (how : Manner) → AreOfFile how bytes.now rows.now []
+        → HasTranslated how path.now (Some bytes.now) (O.taken output.old) (O.taken output.new) (warned.lines_of result) }
+    ensures warned { (how : Manner) → AreOfFile how bytes.now rows.now [] → IsWarned how path.now (Some bytes.now) result }
     ensures cause { IfErr result IsStop }
     ensures ended { OnOk result (IsTrue (O.is_ended output.new)) }
     ensures failures { O.failure_count output.new
@@ -108,16 +115,18 @@ fn put_file<O: Output>(
     output: &mut O,
     path: &str,
     bytes: &[u8],
+    manner: Manner,
 ) -> Result<Translated, Untranslated>
     requires writable { O.failure_count output.old < u64.MAX }
-    ensures stands { HasTranslated path.now (Some bytes.now) (O.taken output.old) (O.taken output.new) (warned.lines_of result) }
-    ensures warned { IsWarned path.now (Some bytes.now) result }
+    ensures stands { HasTranslated manner path.now (Some bytes.now) (O.taken output.old) (O.taken output.new)
+        (warned.lines_of result) }
+    ensures warned { IsWarned manner path.now (Some bytes.now) result }
     ensures cause { IfErr result IsStop }
     ensures ended { OnOk result (IsTrue (O.is_ended output.new)) }
     ensures failures { O.failure_count output.new
         ≡ failures_after_putting result (O.failure_count output.old) }
 {
-    let Ok(found) = read_file(alloc, bytes) else {
+    let Ok(found) = read_file(alloc, bytes, manner) else {
         return Err(Untranslated::NoMemory { written: 0 });
     };
     if !found.faults.is_empty() {
@@ -126,10 +135,10 @@ fn put_file<O: Output>(
     put_warned(alloc, output, path, bytes, found.sound.as_slice())
 }
 
-/// Puts the record file of version 2 that a file of hours stands for, which an input brings: its rows in their order, each
-/// with the canonical text of a domain that contains exactly the seconds at which its hours are open, and with none if it
-/// has no hours. Answers the number of lines, the header included, and a warning of each row that has hours of which no rule
-/// opens.
+/// Puts the record file of version 2 that a file of hours stands for, which an input brings and whose texts are read in this
+/// manner: its rows in their order, each with the canonical text of a domain that contains exactly the seconds at which its hours
+/// are open, and with none if it has no hours. Answers the number of lines, the header included, and the warnings of the rows:
+/// where a text of hours is written loosely, which of its rules hide hours, and that no rule opens.
 ///
 /// Errors, in their order: `ReadFault`, `Endless` or `NoMemory` while the input is read; `Faults` if the file is at fault,
 /// with the list of all its faults for this path; then `WriteFault` or `NoMemory`, whichever happens first. Nothing is put
@@ -140,16 +149,18 @@ pub fn run_hours_records<I: Input, O: Output>(
     input: &mut I,
     output: &mut O,
     path: &str,
+    manner: Manner,
 ) -> Result<Translated, Untranslated>
     requires readable { I.failure_count input.old < u64.MAX }
     requires writable { O.failure_count output.old < u64.MAX }
     // What each answer means. The number of lines: of a file of hours, the output took the record file that its rows are
     // translated to. `Faults`: the text lists all faults of the bytes, and nothing was put. `WriteFault`, or `NoMemory`
     // after the whole file was read: the output took a first part of the lines of the first rows.
-    ensures stands { HasTranslated path.now (I.to_come input.old) (O.taken output.old) (O.taken output.new)
+    ensures stands { HasTranslated manner path.now (I.to_come input.old) (O.taken output.old) (O.taken output.new)
         (warned.lines_of result) }
-    // The warnings of a file of hours are the lines of those rows that never close, each with the line on which the row begins.
-    ensures warned { IsWarned path.now (I.to_come input.old) result }
+    // The warnings of a file of hours are those of the texts of its rows, and of those that never close, each with the line on
+    // which the row begins.
+    ensures warned { IsWarned manner path.now (I.to_come input.old) result }
     // An output that took the whole text was then ended, last of all.
     ensures ended { OnOk result (IsTrue (O.is_ended output.new)) }
     ensures endless { IsErrOf result Untranslated.Endless → IsTrue (I.may_fall_silent input.old) }
@@ -159,7 +170,7 @@ pub fn run_hours_records<I: Input, O: Output>(
         ≡ failures_after_putting result (O.failure_count output.old) }
 {
     match read_whole(alloc, input, MOST_FILE_BYTES) {
-        Ok(bytes) => put_file(alloc, output, path, bytes.as_slice()),
+        Ok(bytes) => put_file(alloc, output, path, bytes.as_slice(), manner),
         Err(InputFault::TooLarge) => Err(refusal(alloc, path, &[], &[HoursFileFault::TooLarge])),
         Err(InputFault::ReadFault) => Err(Untranslated::ReadFault),
         Err(InputFault::Endless) => Err(Untranslated::Endless),

@@ -5,6 +5,7 @@
 pub struct Translated {
     /// The number of lines, the header included.
     pub lines: u64,
-    /// A line for each row that never closes, with the line of the file on which it begins. It is empty if there is none.
-    pub warnings: String,
+    /// A line for each warning, with the line of the file on which its row begins: those of the texts of hours, in the order of
+    /// their places, and then that a row never closes. It is empty if there is none.
+    pub warnings: Vec<u8>,
 }

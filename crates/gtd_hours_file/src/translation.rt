@@ -12,7 +12,7 @@ ghost use Rattle.gtd_report.specs.Putting.{failures_after_stop, nothing_put};
 ghost use Rattle.gtd_hours_file.specs.PuttingRows.{IsLineOf, IsWithin, PutsRows};
 ghost use Rattle.gtd_hours_file.specs.Translated.{IsDomainOf};
 
-use crate::row::HoursRow;
+use crate::row::{HoursRow, RowHours};
 use gtd_core::Domain;
 use gtd_devices::Output;
 use gtd_hours::Hours;
@@ -34,12 +34,12 @@ fn domain_with(alloc: Global, hours: &Hours) -> Result<Domain, AllocError>
 }
 
 // The domain of a row's hours, if it has some.
-fn domain_in(alloc: Global, hours: &Option<Hours>) -> Result<Option<Domain>, AllocError>
-    requires few { IfSome hours.now (λ given. hours_cost given ≤ most_basic_domains) }
+fn domain_in(alloc: Global, hours: &Option<RowHours>) -> Result<Option<Domain>, AllocError>
+    requires few { IfSome hours.now (λ given. hours_cost given.read.hours ≤ most_basic_domains) }
     ensures { IfOk result (λ domain. IsDomainOf hours.now (option_map domain_tree domain)) }
 {
     match hours {
-        Some(hours) => match domain_with(alloc, hours) {
+        Some(given) => match domain_with(alloc, &given.read.hours) {
             Ok(domain) => Ok(Some(domain)),
             Err(_) => Err(AllocError),
         },

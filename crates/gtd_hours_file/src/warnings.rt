@@ -1,15 +1,15 @@
-//! Warnings of rows that never close.
+//! Warnings of rows: of the texts of their hours, and of rows that never close.
 
-ghost use Rattle.std.specs.Prelude.{◌≡◌, ◌↔◌, ◌≤◌, ◌++◌, ℕ, List, IfOk, IsTrue, OnOk, length, string_bytes};
+ghost use Rattle.std.specs.Prelude.{◌≡◌, ◌↔◌, ◌≤◌, IfOk, IsTrue, length, string_bytes};
 ghost use Rattle.gtd_core.specs.Limits.{most_rows};
-ghost use Rattle.gtd_faults.specs.Listing.{line_text};
-ghost use Rattle.gtd_faults.specs.Standing.{StandsAt};
 ghost use Rattle.gtd_hours_file.specs.Warnings as spec;
-ghost use Rattle.gtd_hours_file.specs.Warnings.{AreWarnings, ClosesNever, IsWarningIf, warning_text};
+ghost use Rattle.gtd_hours_file.specs.Warnings.{AreHoursWarnings, AreRowLines, AreWarnings, ClosesNever, before_warning};
+ghost use Rattle.gtd_hours_file.specs.Warnings.{never_line};
 
-use crate::row::HoursRow;
+use crate::row::{HoursRow, RowHours};
 use gtd_faults::{Printable, Rows};
 use gtd_hours::{Hours, Modifier, Rule};
+use gtd_hours_warnings::{Warning, push_lines, warnings_of as warnings_of_text};
 use std::alloc::{AllocError, Global};
 
 // Whether a rule opens.
@@ -34,60 +34,89 @@ fn closes_never(row: &HoursRow) -> bool
     ensures { IsTrue result ↔ ClosesNever row.now.hours }
 {
     match &row.hours {
-        Some(hours) => !some_opens(hours),
+        Some(given) => !some_opens(&given.read.hours),
         None => false,
     }
 }
 
-// Appends the line of a row that is warned of.
-fn push_warning(text: &mut String, path: &str, line: u64, row: u32) -> Result<(), AllocError>
-    ensures { OnOk result (string_bytes text.new ≡ string_bytes text.old ++ line_text path.now line (warning_text row)) }
-{
-    let path = Printable(path.as_bytes());
-    write!(
-        text,
-        "{path}:{line}: row {row}: warning: never-holds: the hours are open at no second\n"
-    )
-}
-
-// Appends the line of the row with this number, if it never closes.
-fn warn(
-    text: &mut String,
-    places: &mut Rows<'_>,
-    path: &str,
-    row: u32,
+// The line of a row that never closes; nothing of another one.
+fn never_line(
+    alloc: Global,
     never: bool,
-) -> Result<(), AllocError>
-    ensures warned { (bytes : List ℕ) (number : ℕ) → StandsAt bytes number places.old
-        → OnOk result ((here : List ℕ) × IsWarningIf never path.now bytes row here
-        × (string_bytes text.new ≡ string_bytes text.old ++ here)) }
-    ensures at { (bytes : List ℕ) (number : ℕ) → StandsAt bytes number places.old
-        → OnOk result ((here : ℕ) × StandsAt bytes here places.new) }
+    path: &str,
+    line: u64,
+    row: u32,
+) -> Result<String, AllocError>
+    ensures { IfOk result (λ text. string_bytes text ≡ never_line never path.now line row) }
 {
-    if !never {
-        return Ok(());
+    let mut text = String::new(alloc);
+    if never {
+        let path = Printable(path.as_bytes());
+        write!(
+            text,
+            "{path}:{line}: row {row}: warning: never-holds: the hours are open at no second\n"
+        )?;
     }
-    let line = places.line_at(Some(row))?;
-    push_warning(text, path, line, row)
+    Ok(text)
 }
 
-/// The lines of those rows that never close, in order, for the file with this path and these bytes.
+// What stands before a warning of the hours of a row.
+fn before_warning(alloc: Global, path: &str, line: u64, row: u32) -> Result<String, AllocError>
+    ensures { IfOk result (λ text. string_bytes text ≡ before_warning path.now line row) }
+{
+    let mut text = String::new(alloc);
+    let path = Printable(path.as_bytes());
+    write!(text, "{path}:{line}: row {row}: warning Hours ")?;
+    Ok(text)
+}
+
+// The warnings of a row's hours.
+fn hours_warnings(alloc: Global, hours: &Option<RowHours>) -> Result<Vec<Warning>, AllocError>
+    ensures { IfOk result (λ found. AreHoursWarnings hours.now found.items) }
+{
+    match hours {
+        Some(given) => warnings_of_text(alloc, given.text.as_slice(), &given.read),
+        None => Ok(Vec::new(alloc)),
+    }
+}
+
+// The lines of a row with this number that begins on this line of the file.
+fn row_lines(
+    alloc: Global,
+    path: &str,
+    line: u64,
+    number: u32,
+    row: &HoursRow,
+) -> Result<Vec<u8>, AllocError>
+    ensures { IfOk result (λ lines. AreRowLines path.now line number row.now lines.items) }
+{
+    let found = hours_warnings(alloc, &row.hours)?;
+    let before = before_warning(alloc, path, line, number)?;
+    let last = never_line(alloc, closes_never(row), path, line, number)?;
+    let mut lines = Vec::new(alloc);
+    push_lines(&mut lines, before.as_bytes(), found.as_slice())?;
+    lines.extend_from_slice(last.as_bytes())?;
+    Ok(lines)
+}
+
+/// The lines of the warnings of these rows, in order, for the file with this path and these bytes.
 pub(crate) fn warnings_of(
     alloc: Global,
     path: &str,
     bytes: &[u8],
     rows: &[HoursRow],
-) -> Result<String, AllocError>
+) -> Result<Vec<u8>, AllocError>
     requires few { length rows.now ≤ most_rows }
-    ensures { IfOk result (λ text. AreWarnings path.now bytes.now 1 rows.now (string_bytes text)) }
+    ensures { IfOk result (λ text. AreWarnings path.now bytes.now 1 rows.now text.items) }
 {
-    let mut text = String::new(alloc);
+    let mut text = Vec::new(alloc);
     let mut places = Rows::new(alloc, bytes)?;
     let mut number = 0u32;
     for row in rows {
         number += 1;
-        let never = closes_never(row);
-        warn(&mut text, &mut places, path, number, never)?;
+        let line = places.line_at(Some(number))?;
+        let lines = row_lines(alloc, path, line, number, row)?;
+        text.extend_from_slice(lines.as_slice())?;
     }
     Ok(text)
 }

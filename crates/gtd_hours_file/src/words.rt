@@ -31,6 +31,9 @@ impl Display for HoursFaultText {
                 let place = fault.place;
                 write!(f, "row {row}: Hours {kind} at {place}")
             }
+            HoursFileFault::Ambiguous { row, place } => {
+                write!(f, "row {row}: Hours Ambiguous at {place}")
+            }
             HoursFileFault::TooMany { row } => write!(f, "row {row}: Hours TooMany at 0"),
             HoursFileFault::TooManyRows => write!(f, "row 65537: TooManyRows"),
         }
@@ -67,6 +70,9 @@ pub fn accepted(fault: HoursFileFault) -> Option<&'static str>
         HoursFileFault::Direction { row } => accepted_of_record(RecordFault::Direction { row }),
         HoursFileFault::Vehicle { row } => accepted_of_record(RecordFault::Vehicle { row }),
         HoursFileFault::Hours { fault, .. } => Some(accepted_hours(fault.kind)),
+        HoursFileFault::Ambiguous { .. } => {
+            Some("what is read in one way: weekdays in English, and times such as 08:00")
+        }
         HoursFileFault::TooMany { .. } => Some("hours that take at most 128 basic domains"),
         HoursFileFault::TooManyRows => accepted_of_record(RecordFault::TooManyRows),
         HoursFileFault::TooLarge => accepted_of_record(RecordFault::TooLarge),

@@ -16,6 +16,7 @@ use Rattle.gtdesk_plans.specs.Commands.Hours as hours
 use Rattle.gtdesk_plans.specs.Commands.Mend as mend
 use Rattle.gtdesk_plans.specs.Commands.Now as now
 use Rattle.gtdesk_plans.specs.Commands.Picture as picture
+use Rattle.gtdesk_plans.specs.Commands.Records as records
 use Rattle.gtdesk_plans.specs.Commands.Same as same
 use Rattle.gtdesk_plans.specs.Commands.Words as words
 use Rattle.gtdesk_words.specs.HoursWords.{HasDomain, IsHoursDomain}
@@ -132,7 +133,9 @@ all_stand form.SameHours rows p h = let x = some_and (same.plan_in p) (same.IsHo
 all_stand form.SameRows rows p h = tt
 all_stand form.Diff rows p h = let x = some_and (diff.plan_in p) (diff.IsPlan rows) h in diff_stand rows x.0 x.1
 all_stand form.Ask rows p h = tt
-all_stand form.Records rows p h = tt
+all_stand form.Records rows p h =
+    let x = some_and (records.plan_in p) (records.IsPlan rows) h in
+    day_names_stand (first_of (codes "day-names") rows) x.0.names x.1.2
 all_stand form.Conditions rows p h = tt
 all_stand form.Mend rows p h = tt
 all_stand form.MendHours rows p h =

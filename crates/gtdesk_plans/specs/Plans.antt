@@ -67,7 +67,7 @@ files_of (one.Now p) = map string_bytes p.files.items
 files_of (one.Faults p) = map string_bytes p.files.items
 files_of (one.Picture p) = string_bytes p.file ∷ []
 files_of (one.SameRows files) = map string_bytes files.items
-files_of (one.Records files) = map string_bytes files.items
+files_of (one.Records p) = map string_bytes p.files.items
 files_of (one.Mend file) = string_bytes file ∷ []
 files_of other = []
 

@@ -19,5 +19,6 @@ pub use hours::HoursPlan;
 pub use mend::MendHoursPlan;
 pub use now::{NowPlan, NowView, ZonePlan};
 pub use picture::{DomainPicturePlan, PicturePlan, PictureSubject};
+pub use records::RecordsPlan;
 pub use same::SamePlan;
 pub use words::WordsPlan;

@@ -16,7 +16,7 @@ mod refused;
 
 pub use commands::{
     ConditionsPlan, DiffPlan, DomainPicturePlan, FaultsPlan, HoursPlan, MendHoursPlan, NowPlan,
-    NowView, PicturePlan, PictureSubject, SamePlan, WordsPlan, ZonePlan,
+    NowView, PicturePlan, PictureSubject, RecordsPlan, SamePlan, WordsPlan, ZonePlan,
 };
 pub use planner::plan;
 pub use plans::{Files, OnePlan, Plan};

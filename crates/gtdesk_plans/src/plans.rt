@@ -2,7 +2,7 @@
 
 use crate::commands::{
     ConditionsPlan, DiffPlan, DomainPicturePlan, FaultsPlan, HoursPlan, MendHoursPlan, NowPlan,
-    PicturePlan, SamePlan, WordsPlan, ZonePlan,
+    PicturePlan, RecordsPlan, SamePlan, WordsPlan, ZonePlan,
 };
 use gtd_core::Domain;
 
@@ -42,8 +42,8 @@ pub enum OnePlan {
     Same(SamePlan),
     /// To print what the rows of each record file of these paths, or `-` for standard input, say more than once.
     SameRows(Vec<String>),
-    /// To print the record file of each file of opening hours of these paths, or `-` for standard input.
-    Records(Vec<String>),
+    /// To print the record files of files of opening hours.
+    Records(RecordsPlan),
     /// To print the record file of this path, or `-` for standard input, with its faults mended.
     Mend(String),
     /// To print the opening hours of a text as they are strictly written.
@@ -76,7 +76,7 @@ impl OnePlan {
             OnePlan::Faults(plan) => Files::Several(plan.files.as_slice()),
             OnePlan::Picture(plan) => Files::One(plan.file.as_str()),
             OnePlan::SameRows(files) => Files::Several(files.as_slice()),
-            OnePlan::Records(files) => Files::Several(files.as_slice()),
+            OnePlan::Records(plan) => Files::Several(plan.files.as_slice()),
             OnePlan::Mend(file) => Files::One(file.as_str()),
             _ => Files::None,
         }

@@ -4,10 +4,8 @@ use Rattle.std.specs.Prelude.{Result, Ok, Err}
 use Rattle.std.specs.Io.KnownBytes.{Appends, Keeps}
 use Rattle.gtd_faults.specs.Run.{TookSome}
 use Rattle.gtd_hours.specs.declared.hours.Hours.{Hours}
-use Rattle.gtd_hours_loose.specs.Manners.{IsReadingIn}
 use Rattle.gtd_hours_loose.specs.declared.manner.Manner.{Manner}
 use Rattle.gtd_hours_loose.specs.declared.reader.LooseFault.TheVariants as loose
-use Rattle.gtd_hours_loose.specs.declared.reader.LooseHours.{LooseHours}
 use Rattle.gtd_hours_loose.specs.declared.reader.LooseReadFault.{LooseReadFault}
 use Rattle.gtd_hours_loose.specs.declared.reader.LooseReadFault.TheVariants as reading
 use Rattle.gtdesk_plans.specs.Arguments.{Text}
@@ -86,11 +84,6 @@ pub hours_refused : (how : Manner) (text : Text) (old : Option (List ℕ)) (ende
     (r : RunRefusal) → IsRefusal how text r → RanHours how text old old ended (telling told told n n) (Err r)
 hours_refused how text old ended told n r is =
     record { whole = tt; refused = ((keeps_same told, refl), inr (is, keeps_same old)) }
-
--- memory was refused for the warnings of a text that is read
-pub warnings_refused : (how : Manner) (text : Text) (read : LooseHours) → IsReadingIn how text read
-    → IsRefusal how text refusal.Memory
-warnings_refused how text read reads = inr (read, reads, inl refl)
 
 -- ---- nothing is read
 

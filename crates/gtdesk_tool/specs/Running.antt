@@ -1,5 +1,5 @@
 -- What a plan prints, and how it ends.
-use Rattle.std.specs.Prelude.{◌≡◌, ◌≢◌, ◌↔◌, ◌⊎◌, ⊤, ℕ, ◌+◌, zero, suc, Bool, true, false, List, Option, Result, Ok}
+use Rattle.std.specs.Prelude.{◌≡◌, ◌≢◌, ◌↔◌, ◌⊎◌, ⊤, ℕ, ◌+◌, zero, suc, Bool, List, Option, Result, Ok}
 use Rattle.std.specs.Prelude.{Err, IsErrOf, IsTrue, Any, IfErr, IfOk, IfSome, OnOk, string_bytes, if◌then◌else◌}
 use Rattle.std.specs.Io.KnownBytes.{Appends, Keeps}
 use Rattle.gtd_core.specs.Parts.{domain_tree}
@@ -31,6 +31,7 @@ use Rattle.gtd_hours_file.specs.Warnings.{IsWarned, lines_of}
 use Rattle.gtd_hours_file.specs.declared.translated.Translated.{Translated}
 use Rattle.gtd_hours_file.specs.declared.untranslated.Untranslated.{Untranslated}
 use Rattle.gtd_hours_file.specs.declared.untranslated.Untranslated.TheVariants as hours
+use Rattle.gtd_hours_loose.specs.declared.manner.Manner.{Manner}
 use Rattle.gtd_hours_loose.specs.declared.manner.Manner.TheVariants as manner
 use Rattle.gtd_now.specs.Now.{IsNowOf}
 use Rattle.gtd_now.specs.Query.{Query}
@@ -174,7 +175,7 @@ IsHoursRefusal r = (r ≡ refusal.NoHours) ⊎ (r ≡ refusal.Memory)
 -- What the output for errors took for the answer of a run that translates a file of hours: the warnings, if there are any; or the
 -- list of the faults.
 abbrev pub IsToldOf : Telling → Result Translated Untranslated → Type 0
-IsToldOf errors (Ok done) = ToldIfSome errors (string_bytes done.warnings)
+IsToldOf errors (Ok done) = ToldIfSome errors done.warnings.items
 IsToldOf errors (Err (hours.Faults list)) = Told errors (string_bytes list)
 IsToldOf errors other = IsUntold errors
 
@@ -187,13 +188,14 @@ records_outcome (Err hours.Endless) = Err (refusal.Records records.Endless)
 records_outcome (Err (hours.WriteFault written)) = Err refusal.Write
 records_outcome (Err (hours.NoMemory written)) = Err refusal.Memory
 
--- The run of `records` had an answer, and all that the run promises for this answer holds.
-pub record RanRecords (path : List ℕ) (file old new : Option (List ℕ)) (silent ended : Bool) (errors : Telling)
+-- The run of `records` of a file whose texts are read in this manner had an answer, and all that the run promises for this answer
+-- holds.
+pub record RanRecords (how : Manner) (path : List ℕ) (file old new : Option (List ℕ)) (silent ended : Bool) (errors : Telling)
     (result : Result Ending RunRefusal) : Type 0 where
   pub answer : Result Translated Untranslated
   pub outcome : result ≡ records_outcome (lines_of answer)
-  pub translated : HasTranslated path file old new (lines_of answer)
-  pub warned : IsWarned path file answer
+  pub translated : HasTranslated how path file old new (lines_of answer)
+  pub warned : IsWarned how path file answer
   pub told : IsToldOf errors answer
   pub whole : OnOk answer (IsTrue ended)
   pub endless : IsErrOf answer hours.Endless → IsTrue silent
@@ -201,7 +203,7 @@ pub record RanRecords (path : List ℕ) (file old new : Option (List ℕ)) (sile
 -- The plan puts nothing to the output for errors.
 abbrev pub IsQuiet : OnePlan → Type 0
 IsQuiet (plan.Now p) = ⊥
-IsQuiet (plan.Records files) = ⊥
+IsQuiet (plan.Records p) = ⊥
 IsQuiet (plan.Mend file) = ⊥
 IsQuiet (plan.DomainOf p) = ⊥
 IsQuiet other = ⊤
@@ -212,7 +214,7 @@ ReadsNone (plan.Now p) = ⊥
 ReadsNone (plan.Faults p) = ⊥
 ReadsNone (plan.Picture p) = ⊥
 ReadsNone (plan.SameRows files) = ⊥
-ReadsNone (plan.Records files) = ⊥
+ReadsNone (plan.Records p) = ⊥
 ReadsNone (plan.Mend file) = ⊥
 ReadsNone other = ⊤
 
@@ -244,8 +246,8 @@ HasRunPlan (plan.Same p) path file old new silent ended errors result =
     HasCompared p.first p.second p.from.second.0 old new ended result
 HasRunPlan (plan.SameRows files) path file old new silent ended errors result =
     RanRepeats path file old new silent ended result
-HasRunPlan (plan.Records files) path file old new silent ended errors result =
-    RanRecords path file old new silent ended errors result
+HasRunPlan (plan.Records p) path file old new silent ended errors result =
+    RanRecords (manner_of p.strict p.names) path file old new silent ended errors result
 HasRunPlan (plan.Mend name) path file old new silent ended errors result =
     RanMended path file old new silent ended errors result
 HasRunPlan (plan.MendHours p) path file old new silent ended errors result =

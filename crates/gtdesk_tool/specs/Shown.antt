@@ -4,7 +4,7 @@ use Rattle.gtd_faults.specs.Snippet.{IsOfField}
 use Rattle.gtd_faults.specs.Expected as of_records
 use Rattle.gtd_faults.specs.declared.snippet.Snippet.TheVariants as snippet
 use Rattle.gtd_hours_file.specs.Listing as of_hours
-use Rattle.gtd_hours_file.specs.Refused.{accepted_once}
+use Rattle.gtd_hours_file.specs.Listing.{accepted_once}
 use Rattle.gtd_hours_file.specs.declared.refused.RefusalSnippet.{RefusalSnippet}
 use Rattle.gtd_records.specs.declared.fault.RecordFault.TheVariants as records
 use Rattle.gtdesk_words.specs.declared.refusal.NoDomain.{NoDomain}

@@ -9,9 +9,19 @@ use crate::ending::Ending;
 use crate::refusal::RunRefusal;
 use gtd_devices::{Input, Output};
 use gtd_hours_file::{Translated, Untranslated, run_hours_records};
+use gtd_hours_loose::Manner;
 use gtd_records::RecordFault;
 use gtd_report::{Progress, put_line};
 use std::alloc::Global;
+
+/// The path of a file of hours, and how its texts are read.
+#[derive(Clone, Copy)]
+pub(crate) struct RecordsTurn<'a> {
+    /// The path.
+    pub(crate) path: &'a str,
+    /// How its texts are read.
+    pub(crate) manner: Manner,
+}
 
 // The answer of `records`, from that of its run.
 fn records_outcome(answer: &Result<Translated, Untranslated>) -> Result<Ending, RunRefusal>
@@ -56,7 +66,7 @@ fn tell_answer<E: Output>(errors: &mut E, answer: &Result<Translated, Untranslat
         (telling (E.taken errors.old) (E.taken errors.new) (E.failure_count errors.old) (E.failure_count errors.new)) answer.now }
 {
     match answer {
-        Ok(done) => tell_if_some(errors, done.warnings.as_bytes()),
+        Ok(done) => tell_if_some(errors, done.warnings.as_slice()),
         Err(Untranslated::Faults(list)) => tell(errors, list.as_bytes()),
         Err(Untranslated::ReadFault) => {}
         Err(Untranslated::Endless) => {}
@@ -65,19 +75,19 @@ fn tell_answer<E: Output>(errors: &mut E, answer: &Result<Translated, Untranslat
     }
 }
 
-/// Prints the record file of the file of hours that the input brings, and warnings of its rows on the output for errors; or
-/// lists all its faults there.
+/// Prints the record file of the file of hours that the input brings, whose texts are read in this manner, and warnings of its
+/// rows on the output for errors; or lists all its faults there.
 pub(crate) fn print_records<I: Input, O: Output, E: Output>(
     alloc: Global,
     input: &mut I,
     output: &mut O,
     errors: &mut E,
-    path: &str,
+    turn: RecordsTurn<'_>,
 ) -> Result<Ending, RunRefusal>
     requires readable { I.failure_count input.old < u64.MAX }
     requires writable { O.failure_count output.old < u64.MAX }
     requires tellable { E.failure_count errors.old < u64.MAX }
-    ensures ran { RanRecords path.now (I.to_come input.old) (O.taken output.old) (O.taken output.new)
+    ensures ran { RanRecords turn.entry.manner turn.entry.path.now (I.to_come input.old) (O.taken output.old) (O.taken output.new)
         (I.may_fall_silent input.old) (O.is_ended output.new)
         (telling (E.taken errors.old) (E.taken errors.new) (E.failure_count errors.old) (E.failure_count errors.new)) result }
     ensures read_faults { I.failure_count input.new
@@ -85,7 +95,7 @@ pub(crate) fn print_records<I: Input, O: Output, E: Output>(
     ensures write_faults { O.failure_count output.new
         ≡ failures_after_write result (O.failure_count output.old) }
 {
-    let answer = run_hours_records(alloc, input, output, path);
+    let answer = run_hours_records(alloc, input, output, turn.path, turn.manner);
     tell_answer(errors, &answer);
     records_outcome(&answer)
 }

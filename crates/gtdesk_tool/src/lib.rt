@@ -30,8 +30,8 @@ pub use ending::{Ending, joined};
 pub use gtd_zones::zone_path;
 pub use gtdesk_plans::{
     ConditionsPlan, DiffPlan, DomainPicturePlan, FaultsPlan, Files, HoursPlan, LineRefusal,
-    MendHoursPlan, NowPlan, NowView, OnePlan, PicturePlan, PictureSubject, Plan, SamePlan,
-    ZonePlan, plan,
+    MendHoursPlan, NowPlan, NowView, OnePlan, PicturePlan, PictureSubject, Plan, RecordsPlan,
+    SamePlan, ZonePlan, plan,
 };
 pub use gtdesk_words::{Moment, NoDomain, Reason, WordFault, WordName, WordsRefusal};
 pub use line::RefusalLines;

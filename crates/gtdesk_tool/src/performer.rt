@@ -10,8 +10,8 @@ ghost use Rattle.gtdesk_tool.specs.Telling.{telling};
 
 use crate::domain_hours::print_hours_of;
 use crate::ending::Ending;
-use crate::hours_records::print_records;
-use crate::loose_hours::{print_hours_domain, print_mended_hours};
+use crate::hours_records::{RecordsTurn, print_records};
+use crate::loose_hours::{manner_of, print_hours_domain, print_mended_hours};
 use crate::mended::print_mended;
 use crate::now::{NowTurn, form_of, print_now};
 use crate::picture::{print_domain, print_picture};
@@ -219,7 +219,10 @@ pub fn perform<I: Input, O: Output, E: Output>(
             print_comparison(alloc, output, &plan.first, &plan.second, plan.from)
         }
         OnePlan::SameRows(_) => print_repeats(alloc, input, output, path),
-        OnePlan::Records(_) => print_records(alloc, input, output, errors, path),
+        OnePlan::Records(plan) => {
+            let manner = manner_of(plan.strict, plan.names);
+            print_records(alloc, input, output, errors, RecordsTurn { path, manner })
+        }
         OnePlan::Mend(_) => print_mended(alloc, input, output, errors, path),
         OnePlan::MendHours(plan) => {
             print_mended_hours(alloc, output, plan.text.as_str(), plan.names)

@@ -4,7 +4,7 @@ use Rattle.gtd_hours_file.proofs.file.read_table.Goals as goal
 
 pub returns-in-NoHeader : goal.returns-in-NoHeader
 returns-in-NoHeader c =
-    no_header c.alone.result _ _ _ (rw c.in-NoHeader.is at c.in_ok-take_rows.ensures.taken)
+    no_header c.args.manner c.alone.result _ _ _ (rw c.in-NoHeader.is at c.in_ok-take_rows.ensures.taken)
     c.alone.ensures.sound c.alone.ensures.faults
 
 pub returns-in-All : goal.returns-in-All

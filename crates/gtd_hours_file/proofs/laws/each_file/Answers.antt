@@ -3,4 +3,4 @@ use Rattle.gtd_hours_file.proofs.EachFile.{each_file}
 use Rattle.gtd_hours_file.proofs.laws.each_file.Goals as goal
 
 pub returns : goal.returns
-returns c = record { some = λ room. each_file room c.each_text.ensures.some }
+returns c = record { some = λ room texts. each_file room texts c.each_text.ensures.some }

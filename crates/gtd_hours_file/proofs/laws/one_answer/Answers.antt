@@ -4,8 +4,8 @@ use Rattle.gtd_hours_file.proofs.laws.one_answer.Goals as goal
 
 pub returns-clause-answer : goal.returns-clause-answer
 returns-clause-answer c =
-    proof.one_answer c.one_meaning.ensures.open c.one_meaning.ensures.cost c.one_first_fault.ensures.fault
-    c.one_first_fault.ensures.apart
+    let one = c.one_reading.ensures in
+    λ how. proof.one_answer how (one.open how) (one.cost how) (one.fault how) (one.apart how)
 
 pub returns-clause-restrictions : goal.returns-clause-restrictions
 returns-clause-restrictions c = proof.same_translation

@@ -5,4 +5,4 @@ use Rattle.gtd_hours_file.proofs.laws.text_is_a_record_file.Goals as goal
 pub returns : goal.returns
 returns c =
     let text = c.canonical_text_of_domain.ensures in
-    record { accepted = file_accepted text.stands text.faultless c.migrated_is_accepted.ensures.rows }
+    record { accepted = λ how. file_accepted how text.stands text.faultless c.migrated_is_accepted.ensures.rows }

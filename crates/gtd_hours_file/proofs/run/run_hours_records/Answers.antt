@@ -5,5 +5,6 @@ use Rattle.gtd_hours_file.proofs.run.run_hours_records.Goals as goal
 
 pub returns-in-Err-TooLarge-clause-stands : goal.returns-in-Err-TooLarge-clause-stands
 returns-in-Err-TooLarge-clause-stands g c =
-    large_refused c.args.path.now (g.I.Input.to_come c.args.input.now) (g.O.Output.taken c.args.output.now) c.refusal.result
+    large_refused c.args.manner c.args.path.now (g.I.Input.to_come c.args.input.now) (g.O.Output.taken c.args.output.now)
+    c.refusal.result
     (search rules) c.refusal.ensures.list

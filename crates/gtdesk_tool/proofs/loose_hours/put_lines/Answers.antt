@@ -5,4 +5,4 @@ use Rattle.gtdesk_tool.proofs.loose_hours.put_lines.Goals as goal
 pub returns-in-Ok-clause-put : goal.returns-in-Ok-clause-put
 returns-in-Ok-clause-put g c =
     lines_told _ _ _ _ _ _ _ _ c.in-Ok.ending c.as_str.ensures.value c.as_slice.ensures.value c.in-Ok.ensures.put
-    c.tell.ensures.told
+    c.tell_if_some.ensures.told

@@ -1,4 +1,5 @@
 -- A plan that reads no file tells of no failure of the input, since nothing that it answers is one.
+use Rattle.gtd_hours_loose.specs.declared.manner.Manner.TheVariants as manner
 use Rattle.gtdesk_tool.proofs.RunningFacts.{of_hours, of_memory, of_none, unread_picture, unread_text}
 use Rattle.gtdesk_tool.proofs.ComparingFacts.{unread_comparison}
 use Rattle.gtdesk_tool.proofs.LooseFacts.{of_unread, unread_hours}
@@ -17,7 +18,8 @@ pub returns-in-DomainOf-clause-read_faults : goal.returns-in-DomainOf-clause-rea
 returns-in-DomainOf-clause-read_faults g c = unread_hours _ _ _ _ _ _ _ _ c.print_hours_domain.ensures.ran
 
 pub returns-in-MendHours-clause-read_faults : goal.returns-in-MendHours-clause-read_faults
-returns-in-MendHours-clause-read_faults g c = unread_text _ _ _ _ _ _ (of_unread _ _ _) _ c.print_mended_hours.ensures.put
+returns-in-MendHours-clause-read_faults g c =
+    unread_text _ _ _ _ _ _ (of_unread (manner.Loose _) _ _) _ c.print_mended_hours.ensures.put
 
 pub returns-in-Same-clause-read_faults : goal.returns-in-Same-clause-read_faults
 returns-in-Same-clause-read_faults g c = unread_comparison _ _ _ _ _ _ _ _ c.print_comparison.ensures.compared

@@ -1,0 +1,16 @@
+-- Hours that take more than 128 basic domains are at fault, as their count, stopped at `u32::MAX`, already shows.
+use Rattle.std.proofs.Common.{◌<◌, arith, refl}
+use Rattle.std.proofs.lemmas.Bool.Decides.{nat_tests}
+use Rattle.gtd_hours.specs.Cost.{hours_cost}
+use Rattle.gtd_hours_file.proofs.RowFacts.{above}
+use Rattle.gtd_hours_file.proofs.row.read_text.Goals as goal
+
+pub returns-then-cost_of-from-clause-stop : goal.returns-then-cost_of-from-clause-stop
+returns-then-cost_of-from-clause-stop c =
+    let limit = c.from.ensures in
+    let more : 128 < c.cost_of.result = grind (arith, nat_tests) in (
+      refl,
+      c.in-Ok.read,
+      c.in-Ok.ensures.hours,
+      above (hours_cost c.in-Ok.read.hours) c.cost_of.result c.cost_of.ensures.value more,
+    )

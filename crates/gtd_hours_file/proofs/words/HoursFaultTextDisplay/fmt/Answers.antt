@@ -1,0 +1,5 @@
+-- The words of an ambiguous text are those that are written.
+use Rattle.gtd_hours_file.proofs.words.HoursFaultTextDisplay.fmt.Goals as goal
+
+pub returns-in-Ambiguous-clause-writes : goal.returns-in-Ambiguous-clause-writes
+returns-in-Ambiguous-clause-writes g c = rw c.in-Ambiguous.is c.write-in-Ambiguous.ensures.writes
