@@ -193,6 +193,7 @@ printf '%s\n' $header '17,both,0,[(h25){h4}]' > bad.csv
 printf '%s\n' $header 17,both,0, 17,both,0, > twice.csv
 printf '%s\n' element,direction,vehicles,hours '17,both,0,Fr 22:00-04:00' > hours.csv
 printf '%s\n' element,direction,vehicles,hours '17,both,0,Apr 10-31' > bad_hours.csv
+printf '%s\n' kind,name,means ignore,maxspeed, ignore,parking, ignore,turn:lanes, > means.csv
 { echo $header; printf "%s,both,0,$domain\n" {1..300}; } > long.csv
 { echo $header; printf '%s,up,0,\n' {1..2000}; } > long_bad.csv
 
@@ -236,6 +237,8 @@ gtdesk 'open read error' diff bad.csv bad.csv 2024-04-01 2024-04-08 11
 gtdesk 'open read error' ask r.csv
 gtdesk 'open read write' records hours.csv
 gtdesk 'open read error' records bad_hours.csv
+# Both files have one name, so a table of means is the file of tags, too, and is at fault as that.
+gtdesk 'open read error' conditions means.csv means.csv
 gtdesk 'open read write' picture r.csv 17 positive 11 2024
 gtdesk write picture-domain '(h0){h2}+(h4){h2}+(h8){h2}' 2024
 gtdesk write
