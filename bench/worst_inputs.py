@@ -339,10 +339,41 @@ def vehicle_lists(folder):
         yield Case(f"16 MiB of {name} vehicle types", schedule(path, DAY))
 
 
+def modes(count):
+    """So many names of modes, in small letters."""
+    return ["".join(chr(97 + number // 26 ** place % 26) for place in range(3)) for number in range(count)]
+
+
+def tags_of_ways(folder):
+    """Files of tags: of many elements, of one element, by many modes, and of one long value."""
+    head, mean = "element,key,value\n", "kind,name,means\n"
+    names = modes(4_000)
+    few = folder.file("few_means", mean + "mode,access,0\nmode,hgv,11;12\ncondition,hazmat,13\n")
+    many = folder.file("many_means", mean + "".join(f"mode,{name},{n % 99 + 1}\n" for n, name in enumerate(names)))
+    night, last = "no @ (Mo-Fr 22:00-06:00)", f"{names[-1]}:conditional"
+
+    def case(name, means, rows):
+        return desk(name, ["conditions", folder.file(name.replace(" ", "_").replace(",", ""), head + "".join(rows)), means])
+
+    yield case("65,536 elements", few, (f"{n},access:conditional,{night}\n" for n in range(MOST_ROWS)))
+    yield case("65,536 elements by 4,000 modes", many, (f"{n},{last},{night}\n" for n in range(MOST_ROWS)))
+    keys = [name + side for name in names for side in ("", ":forward", ":backward")]
+    yield case("an element of 12,000 keys", many, (f"1,{key},no\n" for key in keys))
+    yield case("an element of 12,000 conditional keys", many, (f"1,{key}:conditional,no @ (24/7)\n" for key in keys))
+    value = (MOST_BYTES - 100) // len("no @ (hazmat);")
+    yield case("a value of 16 MiB", few, ["1,access:conditional,", "no @ (hazmat);" * value, "\n"])
+    terms = (MOST_BYTES - 100) // len("hazmat AND ")
+    yield case("a condition of 16 MiB", few, ["1,access:conditional,no @ (", "hazmat AND " * terms, "hazmat)\n"])
+    yield case("a value of 16 MiB of parentheses", few, ["1,access:conditional,no @ ", "(" * (MOST_BYTES - 200), "\n"])
+    yield case("a value of 16 MiB of semicolons", few, ["1,access:conditional,", ";" * (MOST_BYTES - 200), "\n"])
+    yield case("65,536 faulty values", few, (f"{n},access:conditional,no @ (8:00\n" for n in range(MOST_ROWS)))
+
+
 def cases(path):
     """Every case. A file is made when its case is asked for."""
     folder = Folder(path)
     yield from domains()
     yield from words()
-    for group in (one_row, one_element, many_elements, states, pictures, rows_in_order, one_field, vehicle_lists):
+    for group in (one_row, one_element, many_elements, states, pictures, rows_in_order, one_field, vehicle_lists,
+                  tags_of_ways):
         yield from group(folder)
