@@ -34,7 +34,7 @@ CONDITIONAL, DIRECTIONS = ":conditional", {"positive": ":forward", "negative": "
 VALUES = {"no": True, "yes": False, "designated": False, "permissive": False}
 ONEWAY = {"yes": ("negative",), "-1": ("positive",), "no": ()}
 EACH_DAY = "[(h0m0){d1}]"
-COMPARISON = re.compile(r"([A-Za-z_]+) *(>=|<=|>|<|=) *([0-9]+)(?:\.([0-9]*))? *([A-Za-z]*)")
+COMPARISON = re.compile(r"([A-Za-z_]+) *(>=|<=|>|<|=) *([0-9]+)(?:\.([0-9]+))? *([A-Za-z]*)")
 RANGE = r"([0-9]{2}:[0-9]{2})-([0-9]{2}):([0-9]{2})"
 OF_HOURS = {"week", "open", "on", "closed", "off", "day", "days", "easter", "sunrise", "sunset", "dawn", "dusk", "unknown"}
 
@@ -325,13 +325,22 @@ def hours_domain(term):
     """The domain of hours of one open rule, whose selectors are of one kind at most, and of holidays that are closed."""
     rule, = term.rules
     selectors, = rule.kinds.values() or [[]]
-    domains = []
-    for begin, end in rule.times:
-        at = begin if end > hours_model.DAY else 0
-        days = [days_text(selector) for selector in selectors] or [("", 1)]
-        domain = holidays_model.add([f"[({clock(fields, at)}){{d{count}}}]" for fields, count in days])
-        domains.append(domain if end - begin == hours_model.DAY else f"[{domain}*[({clock('', begin)}){{m{end - begin}}}]]")
-    domain = holidays_model.add(domains)
+    days = [days_text(selector) for selector in selectors] or [("", 1)]
+
+    def at_days(minute):
+        return holidays_model.add([f"[({clock(fields, minute)}){{d{count}}}]" for fields, count in days])
+
+    def clocks(times):
+        return holidays_model.add([f"[({clock('', begin)}){{m{end - begin}}}]" for begin, end in times])
+
+    # Times that end on their day share the days.
+    if len(rule.times) > 1 and all(end <= hours_model.DAY for _, end in rule.times):
+        domain = f"[{at_days(0)}*{clocks(rule.times)}]"
+    else:
+        domain = holidays_model.add([
+            at_days(0) if end - begin == hours_model.DAY
+            else f"[{at_days(begin if end > hours_model.DAY else 0)}*{clocks([(begin, end)])}]"
+            for begin, end in rule.times])
     for rows, first, last in term.closed:
         days = holidays_model.holidays(rows, "PH", 0, first, last)
         domain = f"[{domain}-{holidays_model.add(holidays_model.terms(holidays_model.group(days, first, last), first, last))}]"
@@ -404,7 +413,14 @@ def put(data, means, options):
         else:
             elements.setdefault(int(fields[0]), []).append((at, fields[1], fields[2]))
     lines = ["element,direction,vehicles,domain"]
-    for element, rows in elements.items():
+    known = {key + end for mode in means.modes for key in keys_of(mode).values() for end in ("", CONDITIONAL)}
+
+    # Elements stand in the order of their first tags; a tag that is skipped is none.
+    def first(element):
+        return min((at for at, key, _ in elements[element] if key in known), default=MOST_ROWS)
+
+    for element in sorted(elements, key=first):
+        rows = elements[element]
         says, _, warnings, faults = read_tags([row[1:] for row in rows], means, options)
         for kind, many in (("warning", warnings), ("fault", faults)):
             for number, what in (one.removeprefix("row ").split(": ", 1) for one in many):

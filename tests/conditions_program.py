@@ -147,7 +147,7 @@ def drawn(chance, table):
         rows += [[f"{element:0{chance.randint(1, 10)}}", key, value] for key, value in conditional_model.drawn(chance, table)]
     if chance.random() < 0.5:
         chance.shuffle(rows)
-    if chance.random() < 0.5:
+    if rows and chance.random() < 0.5:
         for _ in range(chance.randint(1, 3)):
             row = chance.choice(rows)
             column = chance.choice((0, 1, 2, 2, 2, 2))
