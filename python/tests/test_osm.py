@@ -184,7 +184,7 @@ def records_by_model(elements, rows):
 
 def test_records_of_an_extract(tmp_path):
     """Rows and faults are those of the model, whether the tables are large or small."""
-    ways = Maker(13).ways(600)
+    ways = Maker(13).ways(3_000)
     written(ways, tmp_path / "town.osm")
     (tmp_path / "means.csv").write_text(MEANS)
     elements, rows, _ = expected(ways)
