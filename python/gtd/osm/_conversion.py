@@ -3,7 +3,6 @@
 from __future__ import annotations
 
 import csv
-import io
 import os
 import re
 import subprocess
@@ -13,6 +12,7 @@ from typing import BinaryIO, Dict, List, NamedTuple, Optional, Sequence, Tuple
 
 from gtd._fault import Fault
 from gtd._program import LARGEST_FILE, MOST_ROWS, program
+from gtd.osm._tables import field
 
 _RECORDS = b"element,direction,vehicles,domain\n"
 _LEFT_OUT = b"element,key,value,fault\n"
@@ -105,9 +105,7 @@ def _table(rows: Sequence[Sequence[str]]) -> bytes:
 
 def _line(fields: Sequence[str]) -> str:
     """The line of a row."""
-    text = io.StringIO()
-    csv.writer(text, lineterminator="\n").writerow(fields)
-    return text.getvalue()
+    return ",".join(map(field, fields)) + "\n"
 
 
 class _Records:

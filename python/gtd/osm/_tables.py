@@ -51,7 +51,7 @@ class Tables:
         element = self._first + self.elements
         if element > LAST_ELEMENT:
             raise Fault("Element", note=f"way {way} would be one more than {LAST_ELEMENT}")
-        rows = "".join(f"{element},{_field(key)},{_field(value)}\n" for key, value in tags).encode()
+        rows = "".join(f"{element},{field(key)},{field(value)}\n" for key, value in tags).encode()
         if len(tags) > MOST_ROWS:
             raise Fault("TooManyRows", note=f"way {way} has {len(tags):,} tags that matter, and a table has {MOST_ROWS:,} rows")
         if len(_TAGS) + len(rows) > LARGEST_FILE:
@@ -101,7 +101,7 @@ class Tables:
             self._ways.close()
 
 
-def _field(text: str) -> str:
+def field(text: str) -> str:
     """A field as it is written: quoted where it must be."""
     return text if _QUOTED.isdisjoint(text) else '"' + text.replace('"', '""') + '"'
 
