@@ -50,12 +50,14 @@ def convert(folder: Path, parts: Sequence[str], means: str) -> Converted:
         for part in parts:
             with open(folder / part, newline="", encoding="utf-8") as file:
                 rows = list(csv.reader(file))[1:]
-            found = _faults(*_run(_table(rows), means), means)
-            at_fault = {rows[row - 1][0] for row, _, _ in found}
-            kinds.update(_first_kinds(rows, found).values())
-            left_out.write("".join(_line([*rows[row - 1], fault]) for row, fault, _ in found).encode())
-            sound = [row for row in rows if row[0] not in at_fault] if at_fault else rows
-            records.add(_printed(sound, means))
+            status, printed, said = _run(_table(rows), means)
+            found = _faults(status, said, means)
+            if found:
+                at_fault = {rows[row - 1][0] for row, _, _ in found}
+                kinds.update(_first_kinds(rows, found).values())
+                left_out.write("".join(_line([*rows[row - 1], fault]) for row, fault, _ in found).encode())
+                printed = _printed([row for row in rows if row[0] not in at_fault], means)
+            records.add(printed)
         done = records.files, records.rows
     return Converted(*done, dict(kinds.most_common()))
 
@@ -75,7 +77,7 @@ def _run(tags: bytes, means: str) -> Tuple[int, bytes, str]:
     return done.returncode, done.stdout, done.stderr.decode("utf-8", "replace")
 
 
-def _faults(status: int, _: bytes, said: str, means: str) -> List[Tuple[int, str, str]]:
+def _faults(status: int, said: str, means: str) -> List[Tuple[int, str, str]]:
     """The row, the fault and its kind for each row that is at fault."""
     if status == 0:
         return []
