@@ -66,6 +66,7 @@ put_documents() {
     put 644 usr/share/doc/gtd/examples "$top"/examples/*.*
     put 644 usr/share/doc/gtd/examples/planner "$top"/examples/planner/*
     put 644 usr/share/doc/gtd/examples/conditions "$top"/examples/conditions/*
+    put 644 usr/share/doc/gtd/examples/hours "$top"/examples/hours/*
     rm "$doc/CHANGELOG.md"
     put_notes
 }

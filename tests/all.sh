@@ -78,10 +78,12 @@ part tests/words.py
 part tests/hours.py 10 1
 part tests/holidays_model.py
 part tests/listed_days.py
+part tests/moments.py
 part tests/hidden_model.py
 part tests/conditional_model.py
 part tests/conditions_program.py 300 1
 part tests/hours_program.py 10 1
+part tests/known_program.py 10 1
 part tests/same.py 1000 1
 part tests/diff.py 300 1
 part tests/repeats.py 300 1

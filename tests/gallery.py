@@ -1,6 +1,6 @@
 #!/usr/bin/env python3
-"""The pictures of docs/GALLERY.md: the words and the picture of each domain, and the picture of each of the first hundred texts of
-tests/hours/texts.csv, are exactly what `gtdesk` prints.
+"""The pictures of docs/GALLERY.md, with the words of each domain, and of examples/hours/README.md, with each of the first hundred
+texts of tests/hours/texts.csv, are exactly what `gtdesk` prints.
 
 Usage: tests/gallery.py            compares them (tests/desk.sh runs it)
        tests/gallery.py --write    makes the words of the domains in the table, the table of texts, and all pictures anew
@@ -16,6 +16,7 @@ from checks import Checks
 TOP = os.path.dirname(os.path.dirname(os.path.abspath(__file__)))
 DESK = os.environ.get("GTDESK", os.path.join(TOP, "crates", "gtdesk", "out", "gtdesk"))
 DOCUMENT = os.path.join(TOP, "docs", "GALLERY.md")
+TEXTS = os.path.join(TOP, "examples", "hours", "README.md")
 PICTURES = os.path.join(TOP, "docs", "pictures")
 SHOWN = 100  # the first texts
 BEGIN, END = "<!-- the texts of tests/hours/texts.csv -->\n", "<!-- the end of the texts -->\n"
@@ -28,6 +29,16 @@ WORDS_ROW = re.compile(r'\| `([^`]+)` \|.*<img src=pictures/words/.*\n')
 check = Checks("gallery")
 
 
+def lines_of(path):
+    with open(path, encoding="utf-8") as file:
+        return file.readlines()
+
+
+def write_lines(path, lines):
+    with open(path, "w", encoding="utf-8") as file:
+        file.writelines(lines)
+
+
 def output_of(*words):
     return subprocess.run([DESK, *words], check=True, capture_output=True, timeout=60).stdout
 
@@ -38,8 +49,8 @@ def name_of(domain):
     return "words/" + re.sub(r"_+", "_", re.sub(r"[^A-Za-z0-9]", "_", words)).strip("_") + ".svg"
 
 
-def cell_of(name):
-    return f"<img src=pictures/{name} width=414>"
+def cell_of(name, folder=""):
+    return f"<img src={folder}pictures/{name} width=414>"
 
 
 def words_row(domain):
@@ -49,7 +60,7 @@ def words_row(domain):
 
 
 def text_row(at, row):
-    return f"| `{row['hours']}` | {row['meaning'].rstrip('.')} | {cell_of(f'hours/{at}.svg')} |\n"
+    return f"| `{row['hours']}` | {row['meaning'].rstrip('.')} | {cell_of(f'hours/{at}.svg', '../../docs/')} |\n"
 
 
 def year_of(text):
@@ -73,16 +84,15 @@ def wanted(domains, texts):
 def main():
     write = sys.argv[1:] == ["--write"]
     texts = hours.rows_of("texts.csv")[:SHOWN]
-    with open(DOCUMENT, encoding="utf-8") as file:
-        lines = file.readlines()
-    begin, end = lines.index(BEGIN) + 1, lines.index(END)
+    lines, shown = lines_of(DOCUMENT), lines_of(TEXTS)
+    begin, end = shown.index(BEGIN) + 1, shown.index(END)
     table = HEAD + [text_row(at, row) for at, row in enumerate(texts, 1)]
     domains = [match.group(1) for match in map(WORDS_ROW.fullmatch, lines) if match]
     pictures = wanted(domains, texts)
     if write:
         made = [re.sub(WORDS_ROW, lambda match: words_row(match.group(1)), line) for line in lines]
-        with open(DOCUMENT, "w", encoding="utf-8") as file:
-            file.writelines(made[:begin] + table + made[end:])
+        write_lines(DOCUMENT, made)
+        write_lines(TEXTS, shown[:begin] + table + shown[end:])
         for name, picture in pictures.items():
             with open(os.path.join(PICTURES, name), "wb") as file:
                 file.write(picture)
@@ -90,7 +100,7 @@ def main():
     check(len(domains) >= FEWEST, f"{len(domains)} domains")
     for domain in domains:
         check(words_row(domain) in lines, f"the words of {domain}")
-    check(lines[begin:end] == table, "the table of opening hours")
+    check(shown[begin:end] == table, "the table of opening hours")
     for name, picture in pictures.items():
         path = os.path.join(PICTURES, name)
         check(os.path.exists(path) and open(path, "rb").read() == picture, f"the picture {name}")

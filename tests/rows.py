@@ -48,7 +48,7 @@ import tempfile
 HERE = os.path.dirname(os.path.abspath(__file__))
 CRATES = os.path.join(os.path.dirname(HERE), "crates")
 PROGRAMS = {it: os.path.abspath(os.environ.get(it.upper(), os.path.join(CRATES, it, "out", it))) for it in ("gtd", "gtdesk")}
-OF_TEXT = re.compile(rb"gtdesk: (?:DOMAIN|TEXT|FIRST|SECOND): \w+ at (\d+)\n")
+OF_TEXT = re.compile(rb"gtdesk: (?:DOMAIN|TEXT|FIRST|SECOND): \w+ at (\d+)(?:: [0-9-]+)?\n")
 ACCEPTED = re.compile(rb"    expected: .+\n")
 LETTERS = {b"t": b"\t", b"n": b"\n", b"r": b"\r", b"\\": b"\\"}
 REPEATED = re.compile(r"\\(\d+)\{\{(.*?)\}\}(?!\})")

@@ -1,3 +1,4 @@
 pub mod ClosingLemmas
 pub mod StepLemmas
+pub mod ModeLemmas
 pub mod TermLemmas

@@ -1,4 +1,5 @@
 pub mod Sayings
+pub mod Modes
 pub mod Closing
 pub mod Steps
 pub mod Hours

@@ -11,6 +11,7 @@ pub use tag::{StepsFault, Tag};
 mod count;
 mod hours;
 mod keys;
+mod modes;
 mod steps;
 mod tag;
 mod types;

@@ -11,6 +11,7 @@ ghost use Rattle.gtd_conditional_steps.specs.Steps.{Adds, AreStepsOf, IsStepOf};
 use crate::count::need_too_many;
 use crate::hours::hours_of;
 use crate::keys::{Key, is_of_key, mode_types};
+use crate::modes::first_mode;
 use crate::tag::{StepsFault, Tag};
 use crate::types::types_for;
 use gtd_conditional_means::Means;
@@ -182,14 +183,17 @@ fn push_row(
     }
 }
 
-// The steps of all rows.
+// The steps of all rows. Rows of modes that no tag has are passed over: a table may have thousands of them.
 fn all_steps(asked: Asked<'_>, subject: Subject, tags: &[Tag]) -> Result<Vec<Step>, StepsFault>
     ensures { IfOk result (λ steps. AreStepsOf asked.entry.means.now.rows.items asked.entry.direction
         (spec.said_by subject asked.entry.means.now.rows.items asked.entry.direction tags.now) steps.items) }
 {
     let mut steps = Vec::new(asked.alloc);
-    for mode in 0..asked.means.rows.len() {
+    let end = asked.means.rows.len();
+    let mut mode = first_mode(tags, 0, end);
+    while mode < end {
         push_row(&mut steps, asked, subject, mode, tags)?;
+        mode = first_mode(tags, mode + 1, end);
     }
     Ok(steps)
 }

@@ -1,5 +1,5 @@
 -- Each file of hours has an answer.
-use Rattle.std.proofs.Common.{◌≡◌, ap, refl, sym, subst, ◌<◌, ◌≤◌, ◌+◌, ◌*◌, ◌⊎◌, inl, inr, ℕ, zero, suc, List, [], ◌∷◌, ◌++◌}
+use Rattle.std.proofs.Common.{◌≡◌, ap, refl, sym, subst, ◌<◌, ◌≤◌, ◌+◌, ◌⊎◌, inl, inr, ℕ, zero, suc, List, [], ◌∷◌, ◌++◌}
 use Rattle.std.proofs.Common.{length, arith}
 use Rattle.std.specs.Prelude.{Option, Some, None, MatchOption, Result, Ok, Err}
 use Rattle.std.specs.Vec.{with_items}
@@ -9,20 +9,21 @@ use Rattle.csv.specs.Reading.{default_config, records, strip_bom}
 use Rattle.gtd_core.specs.Limits.{most_basic_domains, most_file_bytes, most_rows}
 use Rattle.gtd_core.specs.facts.Deciding.{Decided}
 use Rattle.gtd_hours.specs.Cost.{hours_cost}
-use Rattle.gtd_hours.specs.declared.hours.Hours.{Hours}
-use Rattle.gtd_hours_grammar.specs.Faults.{IsFirstFault}
-use Rattle.gtd_hours_grammar.specs.declared.fault.HoursFault.{HoursFault}
-use Rattle.gtd_hours_loose.specs.declared.manner.Manner.TheVariants as manner
-use Rattle.gtd_hours_text.specs.Room.{HasRoom, HasVectors}
-use Rattle.gtd_hours_text.specs.Standing.{StandsFor}
+use Rattle.gtd_hours_known.specs.declared.fault.KnownFault.{KnownFault}
+use Rattle.gtd_hours_known.specs.declared.fault.KnownFault.TheVariants as of_text
+use Rattle.gtd_hours_known.specs.declared.known.KnownHours.{KnownHours}
+use Rattle.gtd_hours_text.specs.Room.{HasVectors}
 use Rattle.gtd_records.specs.Columns.{Fields, IsOrdered, closed_of, number_of, vehicles_of}
 use Rattle.gtd_records.specs.declared.direction.Closed.{Closed}
 use Rattle.gtd_records.specs.declared.vehicles.Vehicles.{Vehicles}
 use Rattle.gtd_records.specs.declared.vehicles.Vehicles.TheVariants.{Every, Only, AllBut}
 use Rattle.gtd_records.specs.declared.vehicles.Version.TheVariants as version
 use Rattle.gtd_records.specs.facts.SortedCodes.{ascending}
-use Rattle.gtd_hours_file.specs.HoursFile.{AreEach, AreOfFile, AreRows, AreTable, IsHoursColumn, IsHoursFile, IsHoursOf, IsRow}
-use Rattle.gtd_hours_file.specs.HoursFile.{faults_of, header, sound_of, with_hours}
+use Rattle.gtd_hours_file.specs.HoursFile.{AreEach, AreOfFile, AreRows, AreTable, HasFault, HowRead, IsHoursColumn}
+use Rattle.gtd_hours_file.specs.HoursFile.{IsHoursFault, IsHoursFile, IsHoursOf, IsRow, Reads, faults_of, header, known_holiday}
+use Rattle.gtd_hours_file.specs.HoursFile.{sound_of, with_hours}
+use Rattle.gtd_hours_file.specs.Reading.{text_fault}
+use Rattle.gtd_hours_file.specs.SameAnswers.{IsEachRead}
 use Rattle.gtd_hours_file.specs.declared.fault.HoursFileFault.{HoursFileFault}
 use Rattle.gtd_hours_file.specs.declared.fault.HoursFileFault.TheVariants as fault
 use Rattle.gtd_hours_file.specs.declared.row.HoursRow.{HoursRow}
@@ -81,52 +82,58 @@ record Says (Are : List HoursRow → List HoursFileFault → Type 0) : Type 0 wh
   faults : List HoursFileFault
   are : Are sound faults
 
-less_room : (few many : ℕ) → few ≤ many → HasRoom many → HasRoom few
-less_room few many le room = record {
-  selectors = λ n small. room.selectors n (omega (arith, le, small));
-  kinds = λ n small. room.kinds n (omega (arith, le, small));
-  times = λ n small. room.times n (omega (arith, le, small));
-  rules = λ n small. room.rules n (omega (arith, le, small));
-}
+-- the first fault of a text is one of its row
+fault_of : (how : HowRead) (row : ℕ) (text : List ℕ) (bad : KnownFault) → HasFault how text bad
+    → IsHoursFault how row text (text_fault row bad)
+fault_of how row text (of_text.Hours why) is = (refl, is)
+fault_of how row text (of_text.Ambiguous place) is = (refl, is)
+fault_of how row text (of_text.Holidays place) is = (refl, is)
+fault_of how row text (of_text.Years place) is = (refl, is)
+fault_of how row text (of_text.Uncovered place day) is = (refl, is)
 
-module _ (room : HasRoom (20 * most_file_bytes + 4)) (texts : HasVectors ℕ most_file_bytes)
-    (each_text : (text : List ℕ) → HasRoom (20 * length text + 4)
-    → ((hours : Hours) × StandsFor text hours) ⊎ ((bad : HoursFault) × IsFirstFault text bad)) where
+module _ (how : HowRead) (texts : HasVectors ℕ most_file_bytes) (each_text : IsEachRead how most_file_bytes) where
   -- ---- a row
 
   abbrev Column : ℕ → List ℕ → Type 0
-  Column row text = (read : Result (Option RowHours) HoursFileFault) × IsHoursColumn manner.Strict row text read
+  Column row text = (read : Result (Option RowHours) HoursFileFault) × IsHoursColumn how row text read
 
   -- the text and its hours are kept
-  kept : (text : List ℕ) → length text ≤ most_file_bytes → (hours : Hours) → StandsFor text hours
-      → hours_cost hours ≤ most_basic_domains → (given : RowHours) × IsHoursOf manner.Strict text given
-  kept text le hours is few =
+  kept : (text : List ℕ) → length text ≤ most_file_bytes → (read : KnownHours) → Reads how text read
+      → hours_cost read.hours ≤ most_basic_domains → (given : RowHours) × IsHoursOf how text given
+  kept text le read is few =
       let v = texts (length text) le in (
-        record { text = with_items v.0 text; read = record { hours = hours; form = None } },
-        record { kept = with_items_is v.0 text (sym v.1); reads = (is, refl); few = few },
+        record {
+          text = with_items v.0 text;
+          read = record { hours = read.hours; form = read.form };
+          holiday = known_holiday read.first_holiday how.known.years;
+        },
+        record {
+          kept = with_items_is v.0 text (sym v.1);
+          first = read.first_holiday;
+          reads = is;
+          holiday = refl;
+          few = few;
+        },
       )
 
-  by_cost : (row b : ℕ) (text : List ℕ) → length (b ∷ text) ≤ most_file_bytes → (hours : Hours) → StandsFor (b ∷ text) hours
+  by_cost : (row b : ℕ) (text : List ℕ) → length (b ∷ text) ≤ most_file_bytes → (read : KnownHours) → Reads how (b ∷ text) read
       → Column row (b ∷ text)
-  by_cost row b text le hours is = elim (cases_lt most_basic_domains (hours_cost hours)) [
-    | inl many ↦
-        (Err (fault.TooMany row), (refl, record { hours = hours; form = None }, (is, refl), many))
-    | inr few ↦ let k = kept (b ∷ text) le hours is few in (Ok (Some k.0), k.1)
+  by_cost row b text le read is = elim (cases_lt most_basic_domains (hours_cost read.hours)) [
+    | inl many ↦ (Err (fault.TooMany row), (refl, read, is, many))
+    | inr few ↦ let k = kept (b ∷ text) le read is few in (Ok (Some k.0), k.1)
   ]
 
   column : (row : ℕ) (text : List ℕ) → length text ≤ most_file_bytes → Column row text
   column row [] le = (Ok None, refl)
-  column row (b ∷ text) le =
-      let small = less_room (20 * length (b ∷ text) + 4) (20 * most_file_bytes + 4) (omega (arith, le)) room in
-      elim (each_text (b ∷ text) small) [
-        | inl h ↦ by_cost row b text le h.0 h.1
-        | inr bad ↦ (Err (fault.Hours row bad.0), (refl, bad.1))
-      ]
+  column row (b ∷ text) le = elim (each_text (b ∷ text) le) [
+    | inl read ↦ by_cost row b text le read.0 read.1
+    | inr bad ↦ (Err (text_fault row bad.0), fault_of how row (b ∷ text) bad.0 bad.1)
+  ]
 
   abbrev IsRead : ℕ → ℕ → Closed → List ℕ → Vehicles → Result HoursRow HoursFileFault → Type 0
   IsRead row x c hours named answer =
       (types : Vehicles) × (read : Result (Option RowHours) HoursFileFault)
-      × IsOrdered named types × IsHoursColumn manner.Strict row hours read × (answer ≡ with_hours x c types read)
+      × IsOrdered named types × IsHoursColumn how row hours read × (answer ≡ with_hours x c types read)
 
   by_types : (row x : ℕ) (c : Closed) (hours : List ℕ) → length hours ≤ most_file_bytes → (named : Option Vehicles)
       → (answer : Result HoursRow HoursFileFault)
@@ -152,7 +159,7 @@ module _ (room : HasRoom (20 * most_file_bytes + 4)) (texts : HasVectors ℕ mos
   by_number row hours le named closed (Some x) = by_closed row x hours le named closed
 
   each_row : (row : ℕ) (fields : Fields) → AreShort most_file_bytes fields
-      → (answer : Result HoursRow HoursFileFault) × IsRow manner.Strict row fields answer
+      → (answer : Result HoursRow HoursFileFault) × IsRow how row fields answer
   each_row row [] short = (Err (fault.FieldCount row), refl)
   each_row row (c ∷ []) short = (Err (fault.FieldCount row), refl)
   each_row row (c ∷ d ∷ []) short = (Err (fault.FieldCount row), refl)
@@ -163,7 +170,7 @@ module _ (room : HasRoom (20 * most_file_bytes + 4)) (texts : HasVectors ℕ mos
 
   -- ---- a file
 
-  each_rows : (number : ℕ) (rows : List Fields) → AreShortRows most_file_bytes rows → Says (AreEach manner.Strict number rows)
+  each_rows : (number : ℕ) (rows : List Fields) → AreShortRows most_file_bytes rows → Says (AreEach how number rows)
   each_rows number [] short = record { sound = []; faults = []; are = (refl, refl) }
   each_rows number (row ∷ rows) short =
       let first = each_row number row short.0 in
@@ -174,7 +181,7 @@ module _ (room : HasRoom (20 * most_file_bytes + 4)) (texts : HasVectors ℕ mos
         are = (first.0, more.sound, more.faults, first.1, more.are, refl, refl);
       }
 
-  too_many : (rows : List Fields) → AreShortRows most_file_bytes rows → Split most_rows rows → Says (AreRows manner.Strict rows)
+  too_many : (rows : List Fields) → AreShortRows most_file_bytes rows → Split most_rows rows → Says (AreRows how rows)
   too_many rows short s =
       let each = each_rows 1 s.before (rows_before most_file_bytes s.before (s.row ∷ s.after)
       (subst (AreShortRows most_file_bytes) s.split short)) in
@@ -193,7 +200,7 @@ module _ (room : HasRoom (20 * most_file_bytes + 4)) (texts : HasVectors ℕ mos
         });
       }
 
-  all_rows : (rows : List Fields) → AreShortRows most_file_bytes rows → Says (AreRows manner.Strict rows)
+  all_rows : (rows : List Fields) → AreShortRows most_file_bytes rows → Says (AreRows how rows)
   all_rows rows short = elim (cases_lt most_rows (length rows)) [
     | inl many ↦ too_many rows short (split_at most_rows rows many)
     | inr few ↦
@@ -202,7 +209,7 @@ module _ (room : HasRoom (20 * most_file_bytes + 4)) (texts : HasVectors ℕ mos
   ]
 
   under : (first : Fields) (rows : List Fields) → AreShortRows most_file_bytes rows → Decided (first ≡ header)
-      → Says (AreTable manner.Strict (first ∷ rows))
+      → Says (AreTable how (first ∷ rows))
   under first rows short (inl is) =
       let all = all_rows rows short in
       record { sound = all.sound; faults = all.faults; are = inl (rows, ap (λ (f : Fields). f ∷ rows) is, all.are) }
@@ -212,12 +219,12 @@ module _ (room : HasRoom (20 * most_file_bytes + 4)) (texts : HasVectors ℕ mos
     are = inr ((λ others e. never (heads first header rows others e)), refl, refl);
   }
 
-  each_table : (text : List Fields) → AreShortRows most_file_bytes text → Says (AreTable manner.Strict text)
+  each_table : (text : List Fields) → AreShortRows most_file_bytes text → Says (AreTable how text)
   each_table [] short =
       record { sound = []; faults = fault.Header ∷ []; are = inr ((λ others e. absurd cc), refl, refl) }
   each_table (first ∷ rows) short = under first rows short.1 (same_list (same_list cases_eq) first header)
 
-  each_bytes : (bytes : List ℕ) → Says (AreOfFile manner.Strict bytes)
+  each_bytes : (bytes : List ℕ) → Says (AreOfFile how bytes)
   each_bytes bytes = elim (cases_lt most_file_bytes (length bytes)) [
     | inl many ↦ record { sound = []; faults = fault.TooLarge ∷ []; are = inr (many, refl, refl) }
     | inr few ↦
@@ -225,11 +232,11 @@ module _ (room : HasRoom (20 * most_file_bytes + 4)) (texts : HasVectors ℕ mos
         record { sound = t.sound; faults = t.faults; are = inl (few, t.are) }
   ]
 
-  by_faults : (bytes : List ℕ) (sound : List HoursRow) (faults : List HoursFileFault) → AreOfFile manner.Strict bytes sound faults
-      → (answer : Result (List HoursRow) (List HoursFileFault)) × IsHoursFile manner.Strict bytes answer
+  by_faults : (bytes : List ℕ) (sound : List HoursRow) (faults : List HoursFileFault) → AreOfFile how bytes sound faults
+      → (answer : Result (List HoursRow) (List HoursFileFault)) × IsHoursFile how bytes answer
   by_faults bytes sound [] are = (Ok sound, are)
   by_faults bytes sound (why ∷ faults) are = (Err (why ∷ faults), (sound, are, λ e. cc))
 
   pub each_file : (bytes : List ℕ)
-      → (answer : Result (List HoursRow) (List HoursFileFault)) × IsHoursFile manner.Strict bytes answer
+      → (answer : Result (List HoursRow) (List HoursFileFault)) × IsHoursFile how bytes answer
   each_file bytes = let s = each_bytes bytes in by_faults bytes s.sound s.faults s.are

@@ -7,6 +7,7 @@ pub mod RowFacts
 pub mod RunFacts
 pub mod TranslatedFacts
 pub mod OneAnswer
+pub mod OneWay
 pub mod ShortFields
 pub mod EachFile
 pub mod WarningFacts

@@ -1,20 +1,17 @@
 -- The bytes of a file of hours have one answer.
-use Rattle.std.proofs.Common.{◌≡◌, ◌∙◌, sym, ap, refl, subst, ◌≤◌, ◌+◌, inl, inr, ℕ, List, [], ◌∷◌, ◌++◌}
+use Rattle.std.proofs.Common.{◌≡◌, ◌∙◌, sym, ap, refl, subst, ◌<◌, ◌≤◌, ◌+◌, inl, inr, ℕ, List, [], ◌∷◌, ◌++◌}
 use Rattle.std.proofs.Common.{length, arith}
 use Rattle.std.proofs.Common.{length-append}
 use Rattle.std.specs.Prelude.{◌↔◌, ℤ, Option, Some, None, MatchOption, Result, Ok, Err}
 use Rattle.csv.specs.Reading.{default_config, records, strip_bom}
-use Rattle.gtd_core.specs.Limits.{most_rows}
+use Rattle.gtd_core.specs.Limits.{most_basic_domains, most_rows}
 use Rattle.gtd_core.specs.Parts.{domain_tree}
 use Rattle.gtd_core.specs.Trees.{Tree}
-use Rattle.gtd_hours_grammar.specs.declared.fault.HoursFault.{HoursFault}
 use Rattle.gtd_hours.specs.Cost.{hours_cost}
 use Rattle.gtd_hours.specs.Opening.{IsOpen}
-use Rattle.gtd_hours_loose.specs.Manners.{IsFaultIn, IsReadingIn}
-use Rattle.gtd_hours_loose.specs.declared.manner.Manner.{Manner}
-use Rattle.gtd_hours_loose.specs.declared.reader.LooseFault.{LooseFault}
-use Rattle.gtd_hours_loose.specs.declared.reader.LooseFault.TheVariants as loose
-use Rattle.gtd_hours_loose.specs.declared.reader.LooseHours.{LooseHours}
+use Rattle.gtd_hours_known.specs.declared.fault.KnownFault.{KnownFault}
+use Rattle.gtd_hours_known.specs.declared.fault.KnownFault.TheVariants as of_text
+use Rattle.gtd_hours_known.specs.declared.known.KnownHours.{KnownHours}
 use Rattle.gtd_records.specs.Closing.{HoldsAt, Restriction}
 use Rattle.gtd_records.specs.Columns.{Fields, IsOrdered, IsSortedSet, closed_of, number_of, vehicles_of}
 use Rattle.gtd_records.specs.declared.direction.Closed.{Closed}
@@ -22,10 +19,12 @@ use Rattle.gtd_records.specs.declared.vehicles.Vehicles.{Vehicles}
 use Rattle.gtd_records.specs.declared.vehicles.Vehicles.TheVariants.{Every, Only, AllBut}
 use Rattle.gtd_records.specs.declared.vehicles.Version.TheVariants as version
 use Rattle.gtd_records.specs.facts.Rising.{one_list}
-use Rattle.gtd_hours_file.specs.HoursFile.{AreEach, AreOfFile, AreRows, AreTable, AreTooMany, IsFullRow, IsHoursColumn}
-use Rattle.gtd_hours_file.specs.HoursFile.{IsHoursFault, IsHoursFile, IsHoursOf, IsRow, faults_of, header, sound_of, with_hours}
-use Rattle.gtd_hours_file.specs.SameAnswers.{AreSameHours, AreSameRestrictions, AreSameRows, IsSameAnswer, IsSameRestriction}
-use Rattle.gtd_hours_file.specs.SameAnswers.{IsSameRow}
+use Rattle.gtd_hours_file.specs.HoursFile.{AreEach, AreOfFile, AreRows, AreTable, AreTooMany, HasFault, HowRead}
+use Rattle.gtd_hours_file.specs.HoursFile.{IsFullRow, IsHoursColumn, IsHoursFault, IsHoursFile, IsHoursOf, IsRow, Reads}
+use Rattle.gtd_hours_file.specs.HoursFile.{faults_of, header, sound_of, with_hours}
+use Rattle.gtd_hours_file.specs.Reading.{text_fault}
+use Rattle.gtd_hours_file.specs.SameAnswers.{AreReadInOneWay, AreSameHours, AreSameRestrictions, AreSameRows, IsSameAnswer}
+use Rattle.gtd_hours_file.specs.SameAnswers.{IsSameRestriction, IsSameRow}
 use Rattle.gtd_hours_file.specs.Translated.{IsDomainOf, IsTranslated, IsTranslation}
 use Rattle.gtd_hours_file.specs.declared.fault.HoursFileFault.{HoursFileFault}
 use Rattle.gtd_hours_file.specs.declared.fault.HoursFileFault.TheVariants as fault
@@ -88,91 +87,66 @@ same_with element closed vehicles (Ok one) (Err w) same = absurd same
 same_with element closed vehicles (Err v) (Ok other) same = absurd same
 same_with element closed vehicles (Err v) (Err w) same = same
 
--- what is said of a text by a fault of it
-hours_is : (x y : HoursFault) → loose.Hours x ≡ loose.Hours y → x ≡ y
-hours_is x y e = cc
+-- ---- what is wrong with a text
 
-place_is : (m n : ℕ) → loose.Ambiguous m ≡ loose.Ambiguous n → m ≡ n
-place_is m n e = cc
+-- A fault of hours is the first fault of the text, or that they take too many basic domains.
+data OfText (how : HowRead) (row : ℕ) (text : List ℕ) (why : HoursFileFault) : Type 0 where
+  of_first : (bad : KnownFault) → HasFault how text bad → why ≡ text_fault row bad → OfText how row text why
+  of_many : (read : KnownHours) → Reads how text read → most_basic_domains < hours_cost read.hours → why ≡ fault.TooMany row
+      → OfText how row text why
 
-apart_faults : (x : HoursFault) (n : ℕ) → loose.Hours x ≡ loose.Ambiguous n → ⊥
-apart_faults x n e = cc
+of_row : (how : HowRead) (row : ℕ) (text : List ℕ) (why : HoursFileFault) → IsHoursFault how row text why
+    → OfText how row text why
+of_row how row text fault.TooLarge is = absurd is
+of_row how row text fault.Header is = absurd is
+of_row how row text (fault.FieldCount i) is = absurd is
+of_row how row text (fault.Element i) is = absurd is
+of_row how row text (fault.Direction i) is = absurd is
+of_row how row text (fault.Vehicle i) is = absurd is
+of_row how row text fault.TooManyRows is = absurd is
+of_row how row text (fault.Hours i bad) is = of_first (of_text.Hours bad) is.1 (ap (λ (n : ℕ). fault.Hours n bad) is.0)
+of_row how row text (fault.Ambiguous i place) is =
+    of_first (of_text.Ambiguous place) is.1 (ap (λ (n : ℕ). fault.Ambiguous n place) is.0)
+of_row how row text (fault.Holidays i place) is =
+    of_first (of_text.Holidays place) is.1 (ap (λ (n : ℕ). fault.Holidays n place) is.0)
+of_row how row text (fault.Years i place) is = of_first (of_text.Years place) is.1 (ap (λ (n : ℕ). fault.Years n place) is.0)
+of_row how row text (fault.Uncovered i place day) is =
+    of_first (of_text.Uncovered place day) is.1 (ap (λ (n : ℕ). fault.Uncovered n place day) is.0)
+of_row how row text (fault.TooMany i) is = of_many is.1 is.2 is.3 (ap (λ (n : ℕ). fault.TooMany n) is.0)
 
-module _ (how : Manner)
-    (one_open : (text : List ℕ) (one other : LooseHours) → IsReadingIn how text one → IsReadingIn how text other
-    → (s : ℤ) → IsOpen one.hours s ↔ IsOpen other.hours s)
-    (one_cost : (text : List ℕ) (one other : LooseHours) → IsReadingIn how text one → IsReadingIn how text other
-    → hours_cost one.hours ≡ hours_cost other.hours)
-    (one_fault : (text : List ℕ) (one other : LooseFault) → IsFaultIn how text one → IsFaultIn how text other → one ≡ other)
-    (apart : (text : List ℕ) (read : LooseHours) (bad : LooseFault) → IsReadingIn how text read → IsFaultIn how text bad
-    → ⊥) where
+module _ (how : HowRead) (one_way : AreReadInOneWay how) where
+  same_text_fault : (row : ℕ) (text : List ℕ) (v w : HoursFileFault) → OfText how row text v → OfText how row text w → v ≡ w
+  same_text_fault row text v w (of_first x p e) (of_first y q f) =
+      e ∙ ap (λ (bad : KnownFault). text_fault row bad) (one_way.fault text x y p q) ∙ sym f
+  same_text_fault row text v w (of_first x p e) (of_many read q more f) = absurd (one_way.apart text read x q p)
+  same_text_fault row text v w (of_many read p more e) (of_first y q f) = absurd (one_way.apart text read y p q)
+  same_text_fault row text v w (of_many read p more e) (of_many other q most f) = e ∙ sym f
+
   same_fault : (row : ℕ) (text : List ℕ) (v w : HoursFileFault) → IsHoursFault how row text v → IsHoursFault how row text w
       → v ≡ w
-  same_fault row text fault.TooLarge w p q = absurd p
-  same_fault row text fault.Header w p q = absurd p
-  same_fault row text (fault.FieldCount i) w p q = absurd p
-  same_fault row text (fault.Element i) w p q = absurd p
-  same_fault row text (fault.Direction i) w p q = absurd p
-  same_fault row text (fault.Vehicle i) w p q = absurd p
-  same_fault row text fault.TooManyRows w p q = absurd p
-  same_fault row text (fault.Hours i x) fault.TooLarge p q = absurd q
-  same_fault row text (fault.Hours i x) fault.Header p q = absurd q
-  same_fault row text (fault.Hours i x) (fault.FieldCount j) p q = absurd q
-  same_fault row text (fault.Hours i x) (fault.Element j) p q = absurd q
-  same_fault row text (fault.Hours i x) (fault.Direction j) p q = absurd q
-  same_fault row text (fault.Hours i x) (fault.Vehicle j) p q = absurd q
-  same_fault row text (fault.Hours i x) fault.TooManyRows p q = absurd q
-  same_fault row text (fault.Ambiguous i m) fault.TooLarge p q = absurd q
-  same_fault row text (fault.Ambiguous i m) fault.Header p q = absurd q
-  same_fault row text (fault.Ambiguous i m) (fault.FieldCount j) p q = absurd q
-  same_fault row text (fault.Ambiguous i m) (fault.Element j) p q = absurd q
-  same_fault row text (fault.Ambiguous i m) (fault.Direction j) p q = absurd q
-  same_fault row text (fault.Ambiguous i m) (fault.Vehicle j) p q = absurd q
-  same_fault row text (fault.Ambiguous i m) fault.TooManyRows p q = absurd q
-  same_fault row text (fault.TooMany i) fault.TooLarge p q = absurd q
-  same_fault row text (fault.TooMany i) fault.Header p q = absurd q
-  same_fault row text (fault.TooMany i) (fault.FieldCount j) p q = absurd q
-  same_fault row text (fault.TooMany i) (fault.Element j) p q = absurd q
-  same_fault row text (fault.TooMany i) (fault.Direction j) p q = absurd q
-  same_fault row text (fault.TooMany i) (fault.Vehicle j) p q = absurd q
-  same_fault row text (fault.TooMany i) fault.TooManyRows p q = absurd q
-  same_fault row text (fault.Hours i x) (fault.Hours j y) p q =
-      ap (λ (n : ℕ). fault.Hours n x) (p.0 ∙ sym q.0)
-      ∙ ap (λ (f : HoursFault). fault.Hours j f) (hours_is x y (one_fault text (loose.Hours x) (loose.Hours y) p.1 q.1))
-  same_fault row text (fault.Hours i x) (fault.Ambiguous j n) p q =
-      absurd (apart_faults x n (one_fault text (loose.Hours x) (loose.Ambiguous n) p.1 q.1))
-  same_fault row text (fault.Ambiguous i m) (fault.Hours j y) p q =
-      absurd (apart_faults y m (one_fault text (loose.Hours y) (loose.Ambiguous m) q.1 p.1))
-  same_fault row text (fault.Ambiguous i m) (fault.Ambiguous j n) p q =
-      ap (λ (k : ℕ). fault.Ambiguous k m) (p.0 ∙ sym q.0)
-      ∙ ap (λ (k : ℕ). fault.Ambiguous j k) (place_is m n (one_fault text (loose.Ambiguous m) (loose.Ambiguous n) p.1 q.1))
-  same_fault row text (fault.Hours i x) (fault.TooMany j) p q = absurd (apart text q.1 (loose.Hours x) q.2 p.1)
-  same_fault row text (fault.TooMany i) (fault.Hours j y) p q = absurd (apart text p.1 (loose.Hours y) p.2 q.1)
-  same_fault row text (fault.Ambiguous i m) (fault.TooMany j) p q = absurd (apart text q.1 (loose.Ambiguous m) q.2 p.1)
-  same_fault row text (fault.TooMany i) (fault.Ambiguous j n) p q = absurd (apart text p.1 (loose.Ambiguous n) p.2 q.1)
-  same_fault row text (fault.TooMany i) (fault.TooMany j) p q = ap (λ (n : ℕ). fault.TooMany n) (p.0 ∙ sym q.0)
+  same_fault row text v w p q = same_text_fault row text v w (of_row how row text v p) (of_row how row text w q)
+
+  abbrev reading_of : RowHours → Option ℕ → KnownHours
+  reading_of given place = record { hours = given.read.hours; form = given.read.form; first_holiday = place }
+
+  no_text_fault : (row : ℕ) (text : List ℕ) (given : RowHours) (w : HoursFileFault) → IsHoursOf how text given
+      → OfText how row text w → ⊥
+  no_text_fault row text given w is (of_first bad q f) = one_way.apart text (reading_of given is.first) bad is.reads q
+  no_text_fault row text given w is (of_many read q more f) =
+      let same = one_way.cost text (reading_of given is.first) read is.reads q in
+      let few = is.few in omega (arith, same, more, few)
 
   not_faulty : (row : ℕ) (text : List ℕ) (given : RowHours) (w : HoursFileFault) → IsHoursOf how text given
       → IsHoursFault how row text w → ⊥
-  not_faulty row text given fault.TooLarge is q = q
-  not_faulty row text given fault.Header is q = q
-  not_faulty row text given (fault.FieldCount i) is q = q
-  not_faulty row text given (fault.Element i) is q = q
-  not_faulty row text given (fault.Direction i) is q = q
-  not_faulty row text given (fault.Vehicle i) is q = q
-  not_faulty row text given fault.TooManyRows is q = q
-  not_faulty row text given (fault.Hours j y) is q = apart text given.read (loose.Hours y) is.reads q.1
-  not_faulty row text given (fault.Ambiguous j n) is q = apart text given.read (loose.Ambiguous n) is.reads q.1
-  not_faulty row text given (fault.TooMany j) is q =
-      let same = one_cost text given.read q.1 is.reads q.2 in
-      let many = q.3 in let few = is.few in omega (arith, same, many, few)
+  not_faulty row text given w is q = no_text_fault row text given w is (of_row how row text w q)
 
   same_column : (row : ℕ) (text : List ℕ) (a b : Result (Option RowHours) HoursFileFault) → IsHoursColumn how row text a
       → IsHoursColumn how row text b → SameColumn a b
   same_column row [] a b p q = between SameColumn a b (Ok None) (Ok None) p q tt
   same_column row (c ∷ text) (Ok None) b p q = absurd p
   same_column row (c ∷ text) (Ok (Some x)) (Ok None) p q = absurd q
-  same_column row (c ∷ text) (Ok (Some x)) (Ok (Some y)) p q = one_open (c ∷ text) x.read y.read p.reads q.reads
+  same_column row (c ∷ text) (Ok (Some x)) (Ok (Some y)) p q =
+      one_way.seconds (c ∷ text) (reading_of x p.first) (reading_of y q.first) p.reads q.reads
   same_column row (c ∷ text) (Ok (Some x)) (Err w) p q = absurd (not_faulty row (c ∷ text) x w p q)
   same_column row (c ∷ text) (Err v) (Ok None) p q = absurd q
   same_column row (c ∷ text) (Err v) (Ok (Some y)) p q = absurd (not_faulty row (c ∷ text) y v q p)

@@ -1,19 +1,22 @@
 -- What reading the columns of a row gave.
-use Rattle.std.proofs.Common.{◌≡◌, ◌<◌, ◌≤◌, refl, sym, ap, subst, arith, ℕ, List, [], ◌∷◌, length, Option, Some, None}
+use Rattle.std.proofs.Common.{◌≡◌, ◌∙◌, ◌<◌, ◌≤◌, inl, inr, refl, sym, ap, subst, arith, ℕ, List, [], ◌∷◌, length, Option}
+use Rattle.std.proofs.Common.{Some, None}
 use Rattle.std.specs.Prelude.{Result, Ok, Err, MatchOption, IfSome}
-use Rattle.std.proofs.Math.Nat.{min-le_left}
+use Rattle.std.proofs.Math.Nat.{min-eq_left, min-le_left, min_comm}
+use Rattle.std.proofs.lemmas.Bool.{cases_lt}
 use Rattle.gtd_core.specs.Limits.{most_basic_domains}
 use Rattle.gtd_hours.specs.Cost.{counted, hours_cost, most_counted}
-use Rattle.gtd_hours_loose.specs.Manners.{IsReadFaultIn}
-use Rattle.gtd_hours_loose.specs.declared.manner.Manner.{Manner}
-use Rattle.gtd_hours_loose.specs.declared.reader.LooseFault.TheVariants as loose
-use Rattle.gtd_hours_loose.specs.declared.reader.LooseReadFault.{LooseReadFault}
-use Rattle.gtd_hours_loose.specs.declared.reader.LooseReadFault.TheVariants as reading
+use Rattle.gtd_hours_known.specs.Manners.{IsKnownReadFaultIn}
+use Rattle.gtd_hours_known.specs.declared.fault.KnownFault.TheVariants as of_text
+use Rattle.gtd_hours_known.specs.declared.fault.KnownReadFault.{KnownReadFault}
+use Rattle.gtd_hours_known.specs.declared.fault.KnownReadFault.TheVariants as reading
+use Rattle.gtd_hours_known.specs.declared.known.KnownHours.{KnownHours}
 use Rattle.gtd_records.specs.Columns.{AreTypesRead, Fields, IsOrdered, closed_of, number_of, vehicles_of}
 use Rattle.gtd_records.specs.declared.direction.Closed.{Closed}
 use Rattle.gtd_records.specs.declared.vehicles.Vehicles.{Vehicles}
 use Rattle.gtd_records.specs.declared.vehicles.Version.TheVariants as version
-use Rattle.gtd_hours_file.specs.HoursFile.{IsFullRow, IsHoursColumn, IsHoursOf, IsRow, with_hours}
+use Rattle.gtd_hours_file.specs.HoursFile.{HowRead, IsFullRow, IsHoursColumn, IsHoursOf, IsRow, Reads, known_holiday}
+use Rattle.gtd_hours_file.specs.HoursFile.{with_hours}
 use Rattle.gtd_hours_file.specs.PuttingRows.{IsWithin}
 use Rattle.gtd_hours_file.specs.Reading.{IsColumnRead, IsRowRead, IsTextStop, unread}
 use Rattle.gtd_hours_file.specs.declared.fault.HoursFileFault.{HoursFileFault}
@@ -27,27 +30,52 @@ use Rattle.gtd_hours_file.specs.declared.row.RowStop.TheVariants as stop
 pub above : (n m : ℕ) → m ≡ counted n → most_basic_domains < m → most_basic_domains < n
 above n m is more = let few = min-le_left n most_counted in let least : m ≤ n = rw is few in omega arith
 
+-- and one that is not too large is the count
+pub below : (n m : ℕ) → m ≡ counted n → m ≤ most_basic_domains → n ≤ most_basic_domains
+below n m is few = elim (cases_lt most_counted n) [
+  | inl many ↦
+      let top : counted n ≡ most_counted = min_comm n most_counted ∙ min-eq_left (omega (arith, many)) in
+      absurd (omega (arith, is, top, few))
+  | inr least ↦ let same : counted n ≡ n = min-eq_left least in omega (arith, is, same, few)
+]
+
+-- what is kept of a text from which hours are read, and which few basic domains have
+pub is_kept : (how : HowRead) (text : List ℕ) (read : KnownHours) (given : RowHours) → Reads how text read
+    → given.text.items ≡ text → given.read.hours ≡ read.hours → given.read.form ≡ read.form
+    → given.holiday ≡ known_holiday read.first_holiday how.known.years → hours_cost read.hours ≤ most_basic_domains
+    → IsHoursOf how text given
+is_kept how text read given reads kept hours form holiday few = record {
+  kept = kept;
+  first = read.first_holiday;
+  reads = rw (hours, form) reads;
+  holiday = holiday;
+  few = rw hours few;
+}
+
 -- why a text is not read stops its row
-pub unread_stops : (how : Manner) (row : ℕ) (text : List ℕ) (why : LooseReadFault) → IsReadFaultIn how text why
-    → IsTextStop how row text (unread row why)
-unread_stops how row text (reading.Fault (loose.Hours bad)) is = (refl, is)
-unread_stops how row text (reading.Fault (loose.Ambiguous place)) is = (refl, is)
+pub unread_stops : (how : HowRead) (row : ℕ) (text : List ℕ) (why : KnownReadFault)
+    → IsKnownReadFaultIn how.manner how.known text why → IsTextStop how row text (unread row why)
+unread_stops how row text (reading.Fault (of_text.Hours bad)) is = (refl, is)
+unread_stops how row text (reading.Fault (of_text.Ambiguous place)) is = (refl, is)
+unread_stops how row text (reading.Fault (of_text.Holidays place)) is = (refl, is)
+unread_stops how row text (reading.Fault (of_text.Years place)) is = (refl, is)
+unread_stops how row text (reading.Fault (of_text.Uncovered place day)) is = (refl, is)
 unread_stops how row text reading.NoMemory is = tt
 
 -- a text that is not empty is a column
-pub some_column : (how : Manner) (row : ℕ) (text : List ℕ) (given : RowHours) → 0 < length text → IsHoursOf how text given
+pub some_column : (how : HowRead) (row : ℕ) (text : List ℕ) (given : RowHours) → 0 < length text → IsHoursOf how text given
     → IsHoursColumn how row text (Ok (Some given))
 some_column how row [] given some is = absurd (omega arith)
 some_column how row (b ∷ text) given some is = is
 
-pub column_stops : (how : Manner) (row : ℕ) (text : List ℕ) (why : RowStop) → 0 < length text → IsTextStop how row text why
+pub column_stops : (how : HowRead) (row : ℕ) (text : List ℕ) (why : RowStop) → 0 < length text → IsTextStop how row text why
     → IsColumnRead how row text (Err why)
 column_stops how row [] why some is = absurd (omega arith)
 column_stops how row (b ∷ text) (stop.Fault why) some is = is
 column_stops how row (b ∷ text) stop.NoMemory some is = tt
 
 -- a row whose third column names no types
-pub no_types : (how : Manner) (row : ℕ) (fields : Fields) (a b c d : List ℕ) (element : ℕ) (closed : Closed)
+pub no_types : (how : HowRead) (row : ℕ) (fields : Fields) (a b c d : List ℕ) (element : ℕ) (closed : Closed)
     (read : Option Vehicles)
     → fields ≡ a ∷ b ∷ c ∷ d ∷ [] → number_of a ≡ Some element → closed_of b ≡ Some closed
     → AreTypesRead (vehicles_of version.Two c) read → ((types : Vehicles) → read ≡ Some types → ⊥)
@@ -63,7 +91,7 @@ no_types how row fields a b c d element closed read f p q r none = rw (f, p, q) 
     at (Some named) h = absurd (none h.0 h.2)
 
 -- a row whose four columns are read
-pub full_row : (how : Manner) (row : ℕ) (fields : Fields) (a b c d : List ℕ) (element : ℕ) (closed : Closed) (types : Vehicles)
+pub full_row : (how : HowRead) (row : ℕ) (fields : Fields) (a b c d : List ℕ) (element : ℕ) (closed : Closed) (types : Vehicles)
     (read : Result (Option RowHours) HoursFileFault)
     → fields ≡ a ∷ b ∷ c ∷ d ∷ [] → number_of a ≡ Some element → closed_of b ≡ Some closed
     → AreTypesRead (vehicles_of version.Two c) (Some types) → IsHoursColumn how row d read
@@ -85,7 +113,7 @@ full_row how row fields a b c d element closed types read f p q r s = rw (f, p, 
     )
 
 -- a row whose last column is not read
-pub row_stops : (how : Manner) (row : ℕ) (fields : Fields) (a b c d : List ℕ) (element : ℕ) (closed : Closed) (types : Vehicles)
+pub row_stops : (how : HowRead) (row : ℕ) (fields : Fields) (a b c d : List ℕ) (element : ℕ) (closed : Closed) (types : Vehicles)
     (why : RowStop)
     → fields ≡ a ∷ b ∷ c ∷ d ∷ [] → number_of a ≡ Some element → closed_of b ≡ Some closed
     → AreTypesRead (vehicles_of version.Two c) (Some types) → IsColumnRead how row d (Err why)
@@ -97,7 +125,7 @@ row_stops how row fields a b c d element closed types stop.NoMemory f p q r s = 
 -- ---- what a row says
 
 -- these columns say what the row does
-pub record AreColumnsOf (how : Manner) (row : ℕ) (a b c d : List ℕ) (h : HoursRow) : Type 0 where
+pub record AreColumnsOf (how : HowRead) (row : ℕ) (a b c d : List ℕ) (h : HoursRow) : Type 0 where
   pub element : number_of a ≡ Some h.element
   pub closed : closed_of b ≡ Some h.closed
   pub vehicles : AreTypesRead (vehicles_of version.Two c) (Some h.vehicles)
@@ -108,7 +136,7 @@ match_some : {A : Type 0} (o : Option A) (P : Type 0) (Q : A → Type 0) → (P 
 match_some None P Q none m = absurd (none m)
 match_some (Some x) P Q none m = (x, refl, m)
 
-made : (how : Manner) (row element : ℕ) (closed : Closed) (named types : Vehicles) (a b c d : List ℕ)
+made : (how : HowRead) (row element : ℕ) (closed : Closed) (named types : Vehicles) (a b c d : List ℕ)
     (read : Result (Option RowHours) HoursFileFault) (h : HoursRow)
     → number_of a ≡ Some element → closed_of b ≡ Some closed → vehicles_of version.Two c ≡ Some named → IsOrdered named types
     → IsHoursColumn how row d read → Ok h ≡ with_hours element closed types read → AreColumnsOf how row a b c d h
@@ -122,7 +150,7 @@ made how row element closed named types a b c d (Ok hours) h p q r s t is =
       hours = t;
     })
 
-pub columns_of : (how : Manner) (row : ℕ) (a b c d : List ℕ) (h : HoursRow) → IsFullRow how row a b c d (Ok h)
+pub columns_of : (how : HowRead) (row : ℕ) (a b c d : List ℕ) (h : HoursRow) → IsFullRow how row a b c d (Ok h)
     → AreColumnsOf how row a b c d h
 columns_of how row a b c d h is =
     let x = match_some (number_of a) _ _ (λ (e : ◌≡◌ {A = Result HoursRow HoursFileFault} (Ok h) (Err (fault.Element row))).
@@ -133,14 +161,14 @@ columns_of how row a b c d h is =
     (λ (e : ◌≡◌ {A = Result HoursRow HoursFileFault} (Ok h) (Err (fault.Vehicle row))). cc) y.2 in
     made how row x.0 y.0 z.0 z.2.0 a b c d z.2.1 h x.1 y.1 z.1 z.2.2 z.2.3 z.2.4
 
-column_within : (how : Manner) (row : ℕ) (text : List ℕ) (hours : Option RowHours) → IsHoursColumn how row text (Ok hours)
+column_within : (how : HowRead) (row : ℕ) (text : List ℕ) (hours : Option RowHours) → IsHoursColumn how row text (Ok hours)
     → IfSome hours (λ given. hours_cost given.read.hours ≤ most_basic_domains)
 column_within how row text None is = tt
 column_within how row [] (Some given) is = absurd cc
 column_within how row (b ∷ text) (Some given) is = is.few
 
 -- the hours of a row that is read take few enough basic domains
-pub row_within : (how : Manner) (row : ℕ) (fields : Fields) (h : HoursRow) → IsRow how row fields (Ok h) → IsWithin h
+pub row_within : (how : HowRead) (row : ℕ) (fields : Fields) (h : HoursRow) → IsRow how row fields (Ok h) → IsWithin h
 row_within how row [] h is = absurd cc
 row_within how row (a ∷ []) h is = absurd cc
 row_within how row (a ∷ b ∷ []) h is = absurd cc

@@ -9,8 +9,7 @@ use Rattle.gtd_report.specs.Run.{TookFirst}
 use Rattle.gtd_report.specs.declared.output.Progress.{Progress}
 use Rattle.gtd_report.specs.declared.output.Stop.{Stop}
 use Rattle.gtd_report.specs.declared.output.Stop.TheVariants.{Output, Memory}
-use Rattle.gtd_hours_loose.specs.declared.manner.Manner.{Manner}
-use Rattle.gtd_hours_file.specs.HoursFile.{AreOfFile}
+use Rattle.gtd_hours_file.specs.HoursFile.{AreOfFile, HowRead}
 use Rattle.gtd_hours_file.specs.Listing.{AreLines}
 use Rattle.gtd_hours_file.specs.PuttingRows.{PutsRows, answer_of}
 use Rattle.gtd_hours_file.specs.Run.{HasTranslated, IsFaultList, IsRefusal, TookFirstRecords}
@@ -31,7 +30,7 @@ took_first x a b q lines puts =
     let few = puts.1 in
     (omega arith, rw is at puts.2)
 
-stopped : (how : Manner) (x : Stop) (bytes : List ℕ) (old new : Option (List ℕ)) (q : Progress) (rows : List HoursRow)
+stopped : (how : HowRead) (x : Stop) (bytes : List ℕ) (old new : Option (List ℕ)) (q : Progress) (rows : List HoursRow)
     → AreOfFile how bytes rows [] → PutsRows migrated (Err x) old new nothing_put q rows
     → TookFirstRecords how bytes old new q.written
 stopped how x bytes old new q rows file put = record {
@@ -44,7 +43,7 @@ stopped how x bytes old new q rows file put = record {
 }
 
 -- what a run did with a file of hours
-pub has_translated : (how : Manner) (r : Result (Unit {0}) Stop) (path bytes : List ℕ) (old new : Option (List ℕ)) (q : Progress)
+pub has_translated : (how : HowRead) (r : Result (Unit {0}) Stop) (path bytes : List ℕ) (old new : Option (List ℕ)) (q : Progress)
     (rows : List HoursRow)
     → AreOfFile how bytes rows [] → PutsRows migrated r old new nothing_put q rows
     → HasTranslated how path (Some bytes) old new (answer_of r q)
@@ -65,7 +64,7 @@ some_fault : (x : HoursFileFault) → x ∷ [] ≡ [] → ⊥
 some_fault x e = cc
 
 -- neither the line nor what is shown below it is taken from the bytes
-large_list : (how : Manner) (path text : List ℕ) (file : Option (List ℕ)) → IfSome file (λ all. most_file_bytes < length all)
+large_list : (how : HowRead) (path text : List ℕ) (file : Option (List ℕ)) → IfSome file (λ all. most_file_bytes < length all)
     → AreLines path [] (fault.TooLarge ∷ []) text → IfSome file (λ bytes. IsFaultList how path bytes text)
 large_list how path text None more lines = tt
 large_list how path text (Some bytes) more lines = record {
@@ -74,7 +73,7 @@ large_list how path text (Some bytes) more lines = record {
   lines = lines;
 }
 
-pub large_refused : (how : Manner) (path : List ℕ) (file taken : Option (List ℕ)) (answer : Untranslated)
+pub large_refused : (how : HowRead) (path : List ℕ) (file taken : Option (List ℕ)) (answer : Untranslated)
     → IfSome file (λ all. most_file_bytes < length all) → IsRefusal path [] (fault.TooLarge ∷ []) answer
     → HasTranslated how path file taken taken (Err answer)
 large_refused how path file taken (why.Faults text) more list =

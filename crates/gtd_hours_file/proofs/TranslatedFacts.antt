@@ -8,7 +8,6 @@ use Rattle.gtd_core.specs.Parts.{domain_tree}
 use Rattle.gtd_core.specs.Trees.{Tree, Single, Joined}
 use Rattle.gtd_core.specs.declared.domain.Domain.{Domain}
 use Rattle.gtd_migrate.specs.Migrated.{domain_text, migrated}
-use Rattle.gtd_hours_loose.specs.declared.manner.Manner.{Manner}
 use Rattle.gtd_records.specs.Closing.{Restriction}
 use Rattle.gtd_records.specs.Columns.{Fields}
 use Rattle.gtd_records.specs.ComputedFile.{AreRecords, AreSoundRows}
@@ -21,7 +20,7 @@ use Rattle.gtd_records.specs.facts.RowFacts as record_rows
 use Rattle.gtd_report.specs.Putting.{text_of}
 use Rattle.gtd_text.specs.Canonical.{canonical}
 use Rattle.gtd_text.specs.Reading.{HasNoFault, StandsFor}
-use Rattle.gtd_hours_file.specs.HoursFile.{AreEach, AreOfFile, AreRows, AreTable, IsRow, faults_of, sound_of}
+use Rattle.gtd_hours_file.specs.HoursFile.{AreEach, AreOfFile, AreRows, AreTable, HowRead, IsRow, faults_of, sound_of}
 use Rattle.gtd_hours_file.specs.Translated.{IsDomainOf, IsTranslated, IsTranslation}
 use Rattle.gtd_hours_file.specs.declared.fault.HoursFileFault.{HoursFileFault}
 use Rattle.gtd_hours_file.specs.declared.fault.HoursFileFault.TheVariants as fault
@@ -42,7 +41,7 @@ some_text : (tree : Tree) → 0 < length (canonical tree)
 some_text (Single start duration) = simp length-append (omega arith)
 some_text (Joined op left right) = simp length-append (omega arith)
 
-module _ (how : Manner) (stands : (domain : Domain) → StandsFor (canonical (domain_tree domain)) (domain_tree domain))
+module _ (how : HowRead) (stands : (domain : Domain) → StandsFor (canonical (domain_tree domain)) (domain_tree domain))
     (faultless : (domain : Domain) → HasNoFault (canonical (domain_tree domain))) where
   -- the text of a domain is read as it
   column_read : (hours : Option RowHours) (tree : Option Tree) → IsDomainOf hours tree

@@ -1,39 +1,72 @@
--- What a file of hours is, whose texts are read strictly or loosely: its rows, or all its faults.
+-- What a file of hours is, whose texts are read strictly or loosely and may have holidays: its rows, or all its faults.
 use Rattle.std.specs.Prelude.{◌≡◌, ◌≢◌, ◌<◌, ◌≤◌, ◌⊎◌, ℕ, ◌+◌, List, [], ◌∷◌, ◌++◌, length, codes, Result, Ok, Err, Option}
 use Rattle.std.specs.Prelude.{Some, None, MatchOption}
 use Rattle.csv.specs.Reading.{default_config, records, strip_bom}
 use Rattle.gtd_core.specs.Limits.{most_basic_domains, most_file_bytes, most_rows}
 use Rattle.gtd_hours.specs.Cost.{hours_cost}
-use Rattle.gtd_hours_loose.specs.Manners.{IsFaultIn, IsReadingIn}
+use Rattle.gtd_hours_holidays.specs.declared.known_years.KnownYears.{KnownYears}
+use Rattle.gtd_hours_known.specs.Manners.{IsKnownReadFaultIn, IsKnownReadingIn}
+use Rattle.gtd_hours_known.specs.declared.fault.KnownFault.{KnownFault}
+use Rattle.gtd_hours_known.specs.declared.fault.KnownFault.TheVariants as of_text
+use Rattle.gtd_hours_known.specs.declared.fault.KnownReadFault.TheVariants as unread
+use Rattle.gtd_hours_known.specs.declared.known.Known.{Known}
+use Rattle.gtd_hours_known.specs.declared.known.KnownHours.{KnownHours}
 use Rattle.gtd_hours_loose.specs.declared.manner.Manner.{Manner}
-use Rattle.gtd_hours_loose.specs.declared.reader.LooseFault.TheVariants as loose
-use Rattle.gtd_hours_loose.specs.declared.reader.LooseHours.{LooseHours}
 use Rattle.gtd_records.specs.Columns.{Fields, IsOrdered, closed_of, number_of, vehicles_of}
 use Rattle.gtd_records.specs.declared.direction.Closed.{Closed}
 use Rattle.gtd_records.specs.declared.vehicles.Vehicles.{Vehicles}
 use Rattle.gtd_records.specs.declared.vehicles.Version.TheVariants as version
 use Rattle.gtd_hours_file.specs.declared.fault.HoursFileFault.{HoursFileFault}
 use Rattle.gtd_hours_file.specs.declared.fault.HoursFileFault.TheVariants as fault
+use Rattle.gtd_hours_file.specs.declared.hours_reading.HoursReading.{HoursReading}
 use Rattle.gtd_hours_file.specs.declared.row.HoursRow.{HoursRow}
+use Rattle.gtd_hours_file.specs.declared.row.KnownHoliday.{KnownHoliday}
 use Rattle.gtd_hours_file.specs.declared.row.RowHours.{RowHours}
+
+-- How texts of hours are read: strictly or loosely, and with what is known of holidays.
+pub record HowRead : Type 0 where
+  pub manner : Manner
+  pub known : Known
+
+-- how a run is told to read them
+abbrev pub how_read : HoursReading → HowRead
+how_read told = record { manner = told.manner; known = told.known.now }
+
+-- these hours are read of a text
+abbrev pub Reads : HowRead → List ℕ → KnownHours → Type 0
+Reads how text read = IsKnownReadingIn how.manner how.known text read
+
+-- the text has this first fault
+abbrev pub HasFault : HowRead → List ℕ → KnownFault → Type 0
+HasFault how text bad = IsKnownReadFaultIn how.manner how.known text (unread.Fault bad)
 
 -- what is wrong with a text of hours in the row with this number: its first fault; or hours are read of it whose domain has too
 -- many basic domains
-abbrev pub IsHoursFault : Manner → ℕ → List ℕ → HoursFileFault → Type 0
-IsHoursFault how row text (fault.Hours at why) = (at ≡ row) × IsFaultIn how text (loose.Hours why)
-IsHoursFault how row text (fault.Ambiguous at place) = (at ≡ row) × IsFaultIn how text (loose.Ambiguous place)
+abbrev pub IsHoursFault : HowRead → ℕ → List ℕ → HoursFileFault → Type 0
+IsHoursFault how row text (fault.Hours at why) = (at ≡ row) × HasFault how text (of_text.Hours why)
+IsHoursFault how row text (fault.Ambiguous at place) = (at ≡ row) × HasFault how text (of_text.Ambiguous place)
+IsHoursFault how row text (fault.Holidays at place) = (at ≡ row) × HasFault how text (of_text.Holidays place)
+IsHoursFault how row text (fault.Years at place) = (at ≡ row) × HasFault how text (of_text.Years place)
+IsHoursFault how row text (fault.Uncovered at place day) = (at ≡ row) × HasFault how text (of_text.Uncovered place day)
 IsHoursFault how row text (fault.TooMany at) =
-    (at ≡ row) × (read : LooseHours) × IsReadingIn how text read × (most_basic_domains < hours_cost read.hours)
+    (at ≡ row) × (read : KnownHours) × Reads how text read × (most_basic_domains < hours_cost read.hours)
 IsHoursFault how row text why = ⊥
 
--- the text, and the hours that are read of it, whose domain has few enough basic domains
-pub record IsHoursOf (how : Manner) (text : List ℕ) (given : RowHours) : Type 0 where
+-- where the first holiday of a text stands, and the years in which holidays are known; nothing, if it has none
+abbrev pub known_holiday : Option ℕ → Option KnownYears → Option KnownHoliday
+known_holiday (Some place) (Some years) = Some (record { place = place; years = years })
+known_holiday first years = None
+
+-- The text, the hours that are read of it, whose domain has few enough basic domains, and its first holiday.
+pub record IsHoursOf (how : HowRead) (text : List ℕ) (given : RowHours) : Type 0 where
   pub kept : given.text.items ≡ text
-  pub reads : IsReadingIn how text given.read
+  pub first : Option ℕ
+  pub reads : Reads how text (record { hours = given.read.hours; form = given.read.form; first_holiday = first })
+  pub holiday : given.holiday ≡ known_holiday first how.known.years
   pub few : hours_cost given.read.hours ≤ most_basic_domains
 
 -- The last column of a row: no hours if it is empty, and otherwise those of its bytes; or what is wrong with them.
-abbrev pub IsHoursColumn : Manner → ℕ → List ℕ → Result (Option RowHours) HoursFileFault → Type 0
+abbrev pub IsHoursColumn : HowRead → ℕ → List ℕ → Result (Option RowHours) HoursFileFault → Type 0
 IsHoursColumn how row [] answer = answer ≡ Ok None
 IsHoursColumn how row (b ∷ text) (Ok None) = ⊥
 IsHoursColumn how row (b ∷ text) (Ok (Some given)) = IsHoursOf how (b ∷ text) given
@@ -46,7 +79,7 @@ with_hours element closed vehicles (Ok hours) =
 with_hours element closed vehicles (Err why) = Err why
 
 -- four columns, read from the left
-abbrev pub IsFullRow : Manner → ℕ → List ℕ → List ℕ → List ℕ → List ℕ → Result HoursRow HoursFileFault → Type 0
+abbrev pub IsFullRow : HowRead → ℕ → List ℕ → List ℕ → List ℕ → List ℕ → Result HoursRow HoursFileFault → Type 0
 IsFullRow how row element closed vehicles hours answer =
     MatchOption (number_of element) (answer ≡ Err (fault.Element row)) (λ x.
     MatchOption (closed_of closed) (answer ≡ Err (fault.Direction row)) (λ c.
@@ -55,7 +88,7 @@ IsFullRow how row element closed vehicles hours answer =
     × IsOrdered named types × IsHoursColumn how row hours read × (answer ≡ with_hours x c types read))))
 
 -- the row with this number says this, or has this first fault
-abbrev pub IsRow : Manner → ℕ → Fields → Result HoursRow HoursFileFault → Type 0
+abbrev pub IsRow : HowRead → ℕ → Fields → Result HoursRow HoursFileFault → Type 0
 IsRow how row (element ∷ closed ∷ vehicles ∷ hours ∷ []) answer = IsFullRow how row element closed vehicles hours answer
 IsRow how row _ answer = answer ≡ Err (fault.FieldCount row)
 
@@ -69,7 +102,7 @@ faults_of (Ok row) = []
 faults_of (Err why) = why ∷ []
 
 -- The sound rows and the faults of the others, each in their order, if the first row has this number.
-abbrev pub AreEach : Manner → ℕ → List Fields → List HoursRow → List HoursFileFault → Type 0
+abbrev pub AreEach : HowRead → ℕ → List Fields → List HoursRow → List HoursFileFault → Type 0
 AreEach how number [] sound faults = (sound ≡ []) × (faults ≡ [])
 AreEach how number (row ∷ rows) sound faults =
     (answer : Result HoursRow HoursFileFault) × (more : List HoursRow) × (others : List HoursFileFault)
@@ -77,7 +110,7 @@ AreEach how number (row ∷ rows) sound faults =
     × (sound ≡ sound_of answer ++ more) × (faults ≡ faults_of answer ++ others)
 
 -- there is a row too many: what the rows before it say, and then `TooManyRows`
-pub record AreTooMany (how : Manner) (rows : List Fields) (sound : List HoursRow) (faults : List HoursFileFault) : Type 0 where
+pub record AreTooMany (how : HowRead) (rows : List Fields) (sound : List HoursRow) (faults : List HoursFileFault) : Type 0 where
   pub before : List Fields
   pub row : Fields
   pub after : List Fields
@@ -88,7 +121,7 @@ pub record AreTooMany (how : Manner) (rows : List Fields) (sound : List HoursRow
   pub whole : faults ≡ listed ++ (fault.TooManyRows ∷ [])
 
 -- the rows after the header
-abbrev pub AreRows : Manner → List Fields → List HoursRow → List HoursFileFault → Type 0
+abbrev pub AreRows : HowRead → List Fields → List HoursRow → List HoursFileFault → Type 0
 AreRows how rows sound faults =
     ((length rows ≤ most_rows) × AreEach how 1 rows sound faults) ⊎ AreTooMany how rows sound faults
 
@@ -97,18 +130,18 @@ abbrev pub header : Fields
 header = codes "element" ∷ codes "direction" ∷ codes "vehicles" ∷ codes "hours" ∷ []
 
 -- the records of a text: the first is the header, and the others are rows
-abbrev pub AreTable : Manner → List Fields → List HoursRow → List HoursFileFault → Type 0
+abbrev pub AreTable : HowRead → List Fields → List HoursRow → List HoursFileFault → Type 0
 AreTable how text sound faults =
     ((rows : List Fields) × (text ≡ header ∷ rows) × AreRows how rows sound faults)
     ⊎ (((rows : List Fields) → text ≡ header ∷ rows → ⊥) × (sound ≡ []) × (faults ≡ fault.Header ∷ []))
 
 -- The sound rows of a file's bytes, and all its faults. A byte order mark at the front is not part of the text.
-abbrev pub AreOfFile : Manner → List ℕ → List HoursRow → List HoursFileFault → Type 0
+abbrev pub AreOfFile : HowRead → List ℕ → List HoursRow → List HoursFileFault → Type 0
 AreOfFile how bytes sound faults =
     ((length bytes ≤ most_file_bytes) × AreTable how (records default_config (strip_bom bytes)) sound faults)
     ⊎ ((most_file_bytes < length bytes) × (sound ≡ []) × (faults ≡ fault.TooLarge ∷ []))
 
 -- The bytes are a file of hours with these rows; or these are all its faults, at least one.
-abbrev pub IsHoursFile : Manner → List ℕ → Result (List HoursRow) (List HoursFileFault) → Type 0
+abbrev pub IsHoursFile : HowRead → List ℕ → Result (List HoursRow) (List HoursFileFault) → Type 0
 IsHoursFile how bytes (Ok rows) = AreOfFile how bytes rows []
 IsHoursFile how bytes (Err faults) = (sound : List HoursRow) × AreOfFile how bytes sound faults × (faults ≢ [])

@@ -1,6 +1,7 @@
 -- The list of all faults of a file of hours, in words.
-use Rattle.std.specs.Prelude.{◌≡◌, ◌+◌, ◌++◌, ℕ, List, [], ◌∷◌, codes, decimal, Option, Some, None}
-use Rattle.gtd_core.specs.Limits.{most_rows}
+use Rattle.std.specs.Prelude.{◌≡◌, ◌+◌, ◌++◌, ℕ, ℤ, List, [], ◌∷◌, codes, decimal, Option, Some, None, if◌then◌else◌, int_lt}
+use Rattle.gtd_calendar.specs.Stamp.{date_text}
+use Rattle.gtd_core.specs.Limits.{first_calendar_day, last_calendar_day, most_rows}
 use Rattle.gtd_hours_grammar.specs.KindNames.{kind_name}
 use Rattle.gtd_hours_grammar.specs.declared.fault.FaultKind.{FaultKind}
 use Rattle.gtd_hours_grammar.specs.declared.fault.FaultKind.TheVariants as kind
@@ -10,12 +11,24 @@ use Rattle.gtd_faults.specs.Expected.{accepted_types, expected_line}
 use Rattle.gtd_faults.specs.Hints.{first_line}
 use Rattle.gtd_faults.specs.Listing.{line_text}
 use Rattle.gtd_faults.specs.Places.{IsLineAt, field_of}
+use Rattle.gtd_faults.specs.Printable.{printable}
 use Rattle.gtd_faults.specs.declared.snippet.Snippet.{Snippet}
 use Rattle.gtd_faults.specs.declared.snippet.Snippet.TheVariants as snippet
 use Rattle.gtd_hours_file.specs.declared.fault.HoursFileFault.{HoursFileFault}
 use Rattle.gtd_hours_file.specs.declared.fault.HoursFileFault.TheVariants as fault
 
--- the words of a fault: its row, if it has one; its kind; and for a fault of hours, the place
+-- a day as a date; nothing, if the calendar has none
+abbrev pub day_text : ℤ → List ℕ
+day_text day =
+    if int_lt day first_calendar_day then []
+    else if int_lt last_calendar_day day then []
+    else printable (date_text day)
+
+-- that a table does not cover this day, for the holiday at a place
+abbrev pub uncovered_text : ℕ → ℤ → List ℕ
+uncovered_text place day = codes "Uncovered at " ++ (decimal place ++ (codes ": " ++ day_text day))
+
+-- the words of a fault: its row, if it has one; its kind; for a fault of hours, the place; and a day that a table does not cover
 abbrev pub fault_text : HoursFileFault → List ℕ
 fault_text fault.TooLarge = codes "TooLarge"
 fault_text fault.Header = codes "Header"
@@ -26,6 +39,10 @@ fault_text (fault.Vehicle row) = codes "row " ++ decimal row ++ codes ": Vehicle
 fault_text (fault.Hours row why) =
     codes "row " ++ decimal row ++ codes ": Hours " ++ kind_name why.kind ++ codes " at " ++ decimal why.place
 fault_text (fault.Ambiguous row place) = codes "row " ++ (decimal row ++ (codes ": Hours Ambiguous at " ++ decimal place))
+fault_text (fault.Holidays row place) = codes "row " ++ (decimal row ++ (codes ": Hours Holidays at " ++ decimal place))
+fault_text (fault.Years row place) = codes "row " ++ (decimal row ++ (codes ": Hours Years at " ++ decimal place))
+fault_text (fault.Uncovered row place day) =
+    codes "row " ++ (decimal row ++ (codes ": Hours " ++ uncovered_text place day))
 fault_text (fault.TooMany row) = codes "row " ++ decimal row ++ codes ": Hours TooMany at 0"
 fault_text fault.TooManyRows = codes "row 65537: TooManyRows"
 
@@ -43,6 +60,9 @@ IsSnippet bytes (fault.Direction row) shown = IsOfField (field_of bytes row 1) 0
 IsSnippet bytes (fault.Vehicle row) shown = IsOfField (field_of bytes row 2) 0 shown
 IsSnippet bytes (fault.Hours row why) shown = IsOfField (field_of bytes row 3) why.place shown
 IsSnippet bytes (fault.Ambiguous row place) shown = IsOfField (field_of bytes row 3) place shown
+IsSnippet bytes (fault.Holidays row place) shown = IsOfField (field_of bytes row 3) place shown
+IsSnippet bytes (fault.Years row place) shown = IsOfField (field_of bytes row 3) place shown
+IsSnippet bytes (fault.Uncovered row place day) shown = IsOfField (field_of bytes row 3) place shown
 IsSnippet bytes (fault.TooMany row) shown = IsOfField (field_of bytes row 3) 0 shown
 IsSnippet bytes fault.Header shown = IsOfHeader (first_line bytes) expected_text None shown
 IsSnippet bytes why shown = shown ≡ snippet.Nothing
@@ -60,6 +80,16 @@ accepted_hours kind.Incomplete = codes "more: the second part of a range, or wha
 abbrev pub accepted_once : List ℕ
 accepted_once = codes "what is read in one way: weekdays in English, and times such as 08:00"
 
+-- what is to be given where hours have holidays
+abbrev pub accepted_table : List ℕ
+accepted_table = codes "a table of holidays: give one with --holidays FILE"
+
+abbrev pub accepted_years : List ℕ
+accepted_years = codes "the years in which holidays are known: give them with --years F-L"
+
+abbrev pub accepted_cover : List ℕ
+accepted_cover = codes "a table with all holidays of these years, and rows that say so: PH-covered or SH-covered"
+
 abbrev pub accepted_size : List ℕ
 accepted_size = codes "hours that take at most 128 basic domains"
 
@@ -71,6 +101,9 @@ accepted (fault.Direction row) = Some accepted_direction
 accepted (fault.Vehicle row) = Some accepted_types
 accepted (fault.Hours row why) = Some (accepted_hours why.kind)
 accepted (fault.Ambiguous row place) = Some accepted_once
+accepted (fault.Holidays row place) = Some accepted_table
+accepted (fault.Years row place) = Some accepted_years
+accepted (fault.Uncovered row place day) = Some accepted_cover
 accepted (fault.TooMany row) = Some accepted_size
 accepted fault.TooManyRows = Some accepted_rows
 accepted fault.TooLarge = Some accepted_bytes
@@ -88,6 +121,9 @@ row_of (fault.Direction row) = Some row
 row_of (fault.Vehicle row) = Some row
 row_of (fault.Hours row why) = Some row
 row_of (fault.Ambiguous row place) = Some row
+row_of (fault.Holidays row place) = Some row
+row_of (fault.Years row place) = Some row
+row_of (fault.Uncovered row place day) = Some row
 row_of (fault.TooMany row) = Some row
 row_of fault.TooManyRows = Some (most_rows + 1)
 row_of why = None

@@ -1,36 +1,44 @@
 -- What reading a text of hours, a column or a row gave.
 use Rattle.std.specs.Prelude.{ℕ, List, Option, Result, Ok, Err, ⊤}
-use Rattle.gtd_hours_loose.specs.declared.manner.Manner.{Manner}
-use Rattle.gtd_hours_loose.specs.declared.reader.LooseFault.TheVariants as loose
-use Rattle.gtd_hours_loose.specs.declared.reader.LooseReadFault.{LooseReadFault}
-use Rattle.gtd_hours_loose.specs.declared.reader.LooseReadFault.TheVariants as reading
+use Rattle.gtd_hours_known.specs.declared.fault.KnownFault.{KnownFault}
+use Rattle.gtd_hours_known.specs.declared.fault.KnownFault.TheVariants as of_text
+use Rattle.gtd_hours_known.specs.declared.fault.KnownReadFault.{KnownReadFault}
+use Rattle.gtd_hours_known.specs.declared.fault.KnownReadFault.TheVariants as reading
 use Rattle.gtd_records.specs.Columns.{Fields}
-use Rattle.gtd_hours_file.specs.HoursFile.{IsHoursColumn, IsHoursFault, IsRow}
+use Rattle.gtd_hours_file.specs.HoursFile.{HowRead, IsHoursColumn, IsHoursFault, IsRow}
+use Rattle.gtd_hours_file.specs.declared.fault.HoursFileFault.{HoursFileFault}
 use Rattle.gtd_hours_file.specs.declared.fault.HoursFileFault.TheVariants as fault
 use Rattle.gtd_hours_file.specs.declared.row.HoursRow.{HoursRow}
 use Rattle.gtd_hours_file.specs.declared.row.RowHours.{RowHours}
 use Rattle.gtd_hours_file.specs.declared.row.RowStop.{RowStop}
 use Rattle.gtd_hours_file.specs.declared.row.RowStop.TheVariants as stop
 
+-- the first fault of a text, in the row with this number
+abbrev pub text_fault : ℕ → KnownFault → HoursFileFault
+text_fault row (of_text.Hours why) = fault.Hours row why
+text_fault row (of_text.Ambiguous place) = fault.Ambiguous row place
+text_fault row (of_text.Holidays place) = fault.Holidays row place
+text_fault row (of_text.Years place) = fault.Years row place
+text_fault row (of_text.Uncovered place day) = fault.Uncovered row place day
+
 -- why a text is not read, in the row with this number
-abbrev pub unread : ℕ → LooseReadFault → RowStop
-unread row (reading.Fault (loose.Hours why)) = stop.Fault (fault.Hours row why)
-unread row (reading.Fault (loose.Ambiguous place)) = stop.Fault (fault.Ambiguous row place)
+abbrev pub unread : ℕ → KnownReadFault → RowStop
+unread row (reading.Fault why) = stop.Fault (text_fault row why)
 unread row reading.NoMemory = stop.NoMemory
 
 -- the fault of a text of hours in the row with this number, if memory was not refused
-abbrev pub IsTextStop : Manner → ℕ → List ℕ → RowStop → Type 0
+abbrev pub IsTextStop : HowRead → ℕ → List ℕ → RowStop → Type 0
 IsTextStop how row text (stop.Fault why) = IsHoursFault how row text why
 IsTextStop how row text stop.NoMemory = ⊤
 
 -- what the last column says in the row with this number, if memory was not refused
-abbrev pub IsColumnRead : Manner → ℕ → List ℕ → Result (Option RowHours) RowStop → Type 0
+abbrev pub IsColumnRead : HowRead → ℕ → List ℕ → Result (Option RowHours) RowStop → Type 0
 IsColumnRead how row text (Ok hours) = IsHoursColumn how row text (Ok hours)
 IsColumnRead how row text (Err (stop.Fault why)) = IsHoursColumn how row text (Err why)
 IsColumnRead how row text (Err stop.NoMemory) = ⊤
 
 -- and what the row says
-abbrev pub IsRowRead : Manner → ℕ → Fields → Result HoursRow RowStop → Type 0
+abbrev pub IsRowRead : HowRead → ℕ → Fields → Result HoursRow RowStop → Type 0
 IsRowRead how row fields (Ok found) = IsRow how row fields (Ok found)
 IsRowRead how row fields (Err (stop.Fault why)) = IsRow how row fields (Err why)
 IsRowRead how row fields (Err stop.NoMemory) = ⊤

@@ -5,8 +5,7 @@ use Rattle.gtd_migrate.specs.Migrated.{migrated}
 use Rattle.gtd_records.specs.Closing.{Restriction}
 use Rattle.gtd_report.specs.Putting.{text_of}
 use Rattle.gtd_report.specs.Run.{TookFirst}
-use Rattle.gtd_hours_loose.specs.declared.manner.Manner.{Manner}
-use Rattle.gtd_hours_file.specs.HoursFile.{IsHoursFile}
+use Rattle.gtd_hours_file.specs.HoursFile.{HowRead, IsHoursFile}
 use Rattle.gtd_hours_file.specs.Listing.{AreLines}
 use Rattle.gtd_hours_file.specs.Translated.{IsTranslation}
 use Rattle.gtd_hours_file.specs.declared.fault.HoursFileFault.{HoursFileFault}
@@ -14,9 +13,9 @@ use Rattle.gtd_hours_file.specs.declared.row.HoursRow.{HoursRow}
 use Rattle.gtd_hours_file.specs.declared.untranslated.Untranslated.{Untranslated}
 use Rattle.gtd_hours_file.specs.declared.untranslated.Untranslated.TheVariants as why
 
--- The bytes are a file of hours that is read in this manner, and the output took the record file that its rows are translated to,
+-- The bytes are a file of hours that is read so, and the output took the record file that its rows are translated to,
 -- which has so many lines.
-pub record PutsRecords (how : Manner) (bytes : List ℕ) (old new : Option (List ℕ)) (count : ℕ) : Type 0 where
+pub record PutsRecords (how : HowRead) (bytes : List ℕ) (old new : Option (List ℕ)) (count : ℕ) : Type 0 where
   pub rows : List HoursRow
   pub found : List Restriction
   pub file : IsHoursFile how bytes (Ok rows)
@@ -25,7 +24,7 @@ pub record PutsRecords (how : Manner) (bytes : List ℕ) (old new : Option (List
   pub counted : count ≡ length (migrated found)
 
 -- The bytes are a file of hours, and the output took the first n bytes of the header line and the lines of its first rows.
-pub record TookFirstRecords (how : Manner) (bytes : List ℕ) (old new : Option (List ℕ)) (n : ℕ) : Type 0 where
+pub record TookFirstRecords (how : HowRead) (bytes : List ℕ) (old new : Option (List ℕ)) (n : ℕ) : Type 0 where
   pub first : List HoursRow
   pub rest : List HoursRow
   pub found : List Restriction
@@ -34,7 +33,7 @@ pub record TookFirstRecords (how : Manner) (bytes : List ℕ) (old new : Option 
   pub took : TookFirst old new n (text_of (migrated found))
 
 -- The text lists all faults of the bytes, which are at least one.
-pub record IsFaultList (how : Manner) (path bytes text : List ℕ) : Type 0 where
+pub record IsFaultList (how : HowRead) (path bytes text : List ℕ) : Type 0 where
   pub faults : List HoursFileFault
   pub all : IsHoursFile how bytes (Err faults)
   pub lines : AreLines path bytes faults text
@@ -52,7 +51,7 @@ IsStop why.Endless = ⊥
 IsStop answer = ⊤
 
 -- What the output took, by the answer; and, if the input tells its bytes, what they are.
-abbrev pub HasTranslated : Manner → List ℕ → Option (List ℕ) → Option (List ℕ) → Option (List ℕ) → Result ℕ Untranslated
+abbrev pub HasTranslated : HowRead → List ℕ → Option (List ℕ) → Option (List ℕ) → Option (List ℕ) → Result ℕ Untranslated
     → Type 0
 HasTranslated how path file old new (Ok count) = IfSome file (λ bytes. PutsRecords how bytes old new count)
 HasTranslated how path file old new (Err (why.Faults text)) =

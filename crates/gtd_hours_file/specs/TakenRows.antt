@@ -1,7 +1,7 @@
 -- What reading a file of hours makes of its rows.
 use Rattle.std.specs.Prelude.{◌≡◌, ◌↔◌, ◌++◌, ℕ, Bool, true, false, Result, IsTrue}
 use Rattle.gtd_records.specs.Columns.{Fields}
-use Rattle.gtd_hours_file.specs.HoursFile.{IsRow, faults_of, header, sound_of}
+use Rattle.gtd_hours_file.specs.HoursFile.{IsRow, faults_of, header, how_read, sound_of}
 use Rattle.gtd_hours_file.specs.declared.fault.HoursFileFault.{HoursFileFault}
 use Rattle.gtd_hours_file.specs.declared.file.Reading.{Reading}
 use Rattle.gtd_hours_file.specs.declared.row.HoursRow.{HoursRow}
@@ -10,12 +10,12 @@ use Rattle.gtd_hours_file.specs.declared.row.HoursRow.{HoursRow}
 abbrev pub BeginsReading : Reading → Fields → Reading → Bool → Type 0
 BeginsReading old first new is =
     (IsTrue is ↔ (first ≡ header)) × (new.found.sound.items ≡ old.found.sound.items)
-    × (new.found.faults.items ≡ old.found.faults.items) × (new.manner ≡ old.manner)
+    × (new.found.faults.items ≡ old.found.faults.items) × (new.by ≡ old.by)
 
 -- what the row says is added
 abbrev pub TakesRow : Reading → ℕ → Fields → Reading → Bool → Type 0
 TakesRow old number row new false = ⊥
 TakesRow old number row new true =
-    (answer : Result HoursRow HoursFileFault) × IsRow old.manner number row answer
+    (answer : Result HoursRow HoursFileFault) × IsRow (how_read old.by) number row answer
     × (new.found.sound.items ≡ old.found.sound.items ++ sound_of answer)
-    × (new.found.faults.items ≡ old.found.faults.items ++ faults_of answer) × (new.manner ≡ old.manner)
+    × (new.found.faults.items ≡ old.found.faults.items ++ faults_of answer) × (new.by ≡ old.by)

@@ -9,12 +9,13 @@ use Rattle.gtd_hours.specs.declared.hours.Hours.{Hours}
 use Rattle.gtd_hours.specs.declared.hours.Modifier.{Modifier}
 use Rattle.gtd_hours.specs.declared.hours.Modifier.TheVariants.{Open, Closed}
 use Rattle.gtd_hours.specs.declared.hours.Rule.{Rule}
-use Rattle.gtd_hours_loose.specs.declared.manner.Manner.{Manner}
+use Rattle.gtd_hours_loose.specs.declared.reader.LooseHours.{LooseHours}
 use Rattle.gtd_hours_warnings.specs.Lines.{warning_lines}
 use Rattle.gtd_hours_warnings.specs.Warnings as of_text
 use Rattle.gtd_hours_warnings.specs.declared.warnings.Warning.{Warning}
-use Rattle.gtd_hours_file.specs.HoursFile.{IsHoursFile}
+use Rattle.gtd_hours_file.specs.HoursFile.{HowRead, IsHoursFile}
 use Rattle.gtd_hours_file.specs.declared.row.HoursRow.{HoursRow}
+use Rattle.gtd_hours_file.specs.declared.row.KnownHoliday.{KnownHoliday}
 use Rattle.gtd_hours_file.specs.declared.row.RowHours.{RowHours}
 use Rattle.gtd_hours_file.specs.declared.translated.Translated.{Translated}
 use Rattle.gtd_hours_file.specs.declared.untranslated.Untranslated.{Untranslated}
@@ -51,10 +52,16 @@ abbrev pub before_warning : List ℕ → ℕ → ℕ → List ℕ
 before_warning path line row =
     printable path ++ (codes ":" ++ (decimal line ++ (codes ": row " ++ (decimal row ++ codes ": warning Hours "))))
 
+-- The warnings of a text from which these hours are read: those of any text; or, if it has holidays, where it is written
+-- loosely, and at the first holiday the years in which they are known.
+abbrev pub AreTextWarnings : Option KnownHoliday → List ℕ → LooseHours → List Warning → Type 0
+AreTextWarnings None text read found = of_text.AreWarnings text read found
+AreTextWarnings (Some first) text read found = of_text.AreHolidayWarnings text read.form first.place first.years found
+
 -- the warnings of a row's hours; a row without hours has none
 abbrev pub AreHoursWarnings : Option RowHours → List Warning → Type 0
 AreHoursWarnings None found = found ≡ []
-AreHoursWarnings (Some given) found = of_text.AreWarnings given.text.items given.read found
+AreHoursWarnings (Some given) found = AreTextWarnings given.holiday given.text.items given.read found
 
 -- ---- all
 
@@ -75,12 +82,12 @@ AreWarnings path bytes number (row ∷ rows) text =
     × IsLine bytes number line × AreRowLines path line number row here
     × AreWarnings path bytes (number + 1) rows after × (text ≡ here ++ after)
 
--- The bytes are a file of hours that is read in this manner, and these are the warnings of its rows.
-abbrev pub AreWarningsOf : Manner → List ℕ → List ℕ → List ℕ → Type 0
+-- The bytes are a file of hours that is read so, and these are the warnings of its rows.
+abbrev pub AreWarningsOf : HowRead → List ℕ → List ℕ → List ℕ → Type 0
 AreWarningsOf how path bytes text = (rows : List HoursRow) × IsHoursFile how bytes (Ok rows) × AreWarnings path bytes 1 rows text
 
 -- what the answer warns of
-abbrev pub IsWarned : Manner → List ℕ → Option (List ℕ) → Result Translated Untranslated → Type 0
+abbrev pub IsWarned : HowRead → List ℕ → Option (List ℕ) → Result Translated Untranslated → Type 0
 IsWarned how path file (Ok done) = IfSome file (λ bytes. AreWarningsOf how path bytes done.warnings.items)
 IsWarned how path file (Err why) = ⊤
 

@@ -22,6 +22,13 @@ pub enum HoursFileFault {
     Hours { row: u32, fault: HoursFault },
     /// People read the opening hours of a row in two ways, at a place: so many bytes before it.
     Ambiguous { row: u32, place: usize },
+    /// The opening hours of a row have a holiday, and no table says all holidays of its kind for some day.
+    Holidays { row: u32, place: usize },
+    /// There is a table for a holiday of a row, but the years are not given in which holidays are known.
+    Years { row: u32, place: usize },
+    /// The table does not say all holidays of a kind in the years. The day, counted from 1970-01-01, is the first on which it
+    /// does not.
+    Uncovered { row: u32, place: usize, day: i64 },
     /// The hours of a row take more than 128 basic domains.
     TooMany { row: u32 },
     /// There are more than 65,536 rows.

@@ -25,6 +25,9 @@ fn row_of(fault: HoursFileFault) -> Option<u32>
         HoursFileFault::Vehicle { row } => Some(row),
         HoursFileFault::Hours { row, .. } => Some(row),
         HoursFileFault::Ambiguous { row, .. } => Some(row),
+        HoursFileFault::Holidays { row, .. } => Some(row),
+        HoursFileFault::Years { row, .. } => Some(row),
+        HoursFileFault::Uncovered { row, .. } => Some(row),
         HoursFileFault::TooMany { row } => Some(row),
         HoursFileFault::TooManyRows => Some(MOST_ROWS + 1),
     }
@@ -48,6 +51,9 @@ fn fault_snippet<'a>(bytes: &'a [u8], rows: &'a Rows<'_>, fault: HoursFileFault)
         HoursFileFault::Vehicle { .. } => rows.field(2, 0),
         HoursFileFault::Hours { fault, .. } => rows.field(3, fault.place),
         HoursFileFault::Ambiguous { place, .. } => rows.field(3, place),
+        HoursFileFault::Holidays { place, .. } => rows.field(3, place),
+        HoursFileFault::Years { place, .. } => rows.field(3, place),
+        HoursFileFault::Uncovered { place, .. } => rows.field(3, place),
         HoursFileFault::TooMany { .. } => rows.field(3, 0),
         _ => Snippet::Nothing,
     }

@@ -3,15 +3,15 @@
 ghost use Rattle.std.specs.Prelude.{◌≡◌, ◌++◌, [], ◌∷◌, Result, IfOk, IsTrue, OnOk, ◌↔◌};
 ghost use Rattle.csv.specs.Reading.{default_config, records, strip_bom};
 ghost use Rattle.csv.specs.Records.{fields_of};
-ghost use Rattle.gtd_hours_file.specs.HoursFile.{AreOfFile, AreTable, IsRow, faults_of, header, sound_of};
+ghost use Rattle.gtd_hours_file.specs.HoursFile.{AreOfFile, AreTable, IsRow, faults_of, header, how_read, sound_of};
 ghost use Rattle.gtd_hours_file.specs.declared.fault.HoursFileFault.{HoursFileFault};
 ghost use Rattle.gtd_hours_file.specs.declared.row.HoursRow.{HoursRow};
 
 use crate::fault::HoursFileFault;
+use crate::hours_reading::HoursReading;
 use crate::row::{HoursRow, RowStop, read_row};
 use csv::ByteRecord;
 use gtd_core::limits::MOST_FILE_BYTES;
-use gtd_hours_loose::Manner;
 use gtd_records::{RowTaker, RowsEnd, four_columns, take_rows};
 use std::alloc::{AllocError, Global};
 
@@ -51,13 +51,14 @@ fn add_row(
     found: &mut Found,
     number: u32,
     row: &ByteRecord,
-    manner: Manner,
+    reading: HoursReading<'_>,
 ) -> Result<(), AllocError>
-    ensures { OnOk result ((answer : Result HoursRow HoursFileFault) × IsRow manner number (fields_of row.now) answer
+    ensures { OnOk result ((answer : Result HoursRow HoursFileFault)
+        × IsRow (how_read reading.entry) number (fields_of row.now) answer
         × (found.new.sound.items ≡ found.old.sound.items ++ sound_of answer)
         × (found.new.faults.items ≡ found.old.faults.items ++ faults_of answer)) }
 {
-    match read_row(alloc, number, row, manner) {
+    match read_row(alloc, number, row, reading) {
         Ok(read) => found.sound.push(read)?,
         Err(RowStop::Fault(why)) => found.faults.push(why)?,
         Err(RowStop::NoMemory) => return Err(AllocError),
@@ -80,13 +81,13 @@ fn is_header(row: &ByteRecord) -> bool
 
 /// What the rows say that were read.
 #[derive(Drop)]
-pub(crate) struct Reading {
+pub(crate) struct Reading<'a> {
     alloc: Global,
-    pub(crate) manner: Manner,
+    pub(crate) by: HoursReading<'a>,
     pub(crate) found: Found,
 }
 
-impl RowTaker for Reading {
+impl RowTaker for Reading<'_> {
     ghost use Rattle.gtd_hours_file.specs.TakenRows.{BeginsReading, TakesRow};
 
     ghost begins = { BeginsReading };
@@ -98,19 +99,19 @@ impl RowTaker for Reading {
     }
 
     fn take_row(&mut self, number: u32, row: &ByteRecord) -> Result<bool, AllocError> {
-        add_row(self.alloc, &mut self.found, number, row, self.manner)?;
+        add_row(self.alloc, &mut self.found, number, row, self.by)?;
         Ok(true)
     }
 }
 
 // What the records of a file's bytes say, if there are not too many bytes.
-fn read_table(alloc: Global, bytes: &[u8], manner: Manner) -> Result<Found, AllocError>
+fn read_table(alloc: Global, bytes: &[u8], by: HoursReading<'_>) -> Result<Found, AllocError>
     ensures { IfOk result (λ found.
-        AreTable manner (records default_config (strip_bom bytes.now)) found.sound.items found.faults.items) }
+        AreTable (how_read by.entry) (records default_config (strip_bom bytes.now)) found.sound.items found.faults.items) }
 {
     let mut reading = Reading {
         alloc,
-        manner,
+        by,
         found: nothing(alloc),
     };
     match take_rows(alloc, bytes, &mut reading)? {
@@ -124,12 +125,16 @@ fn read_table(alloc: Global, bytes: &[u8], manner: Manner) -> Result<Found, Allo
     }
 }
 
-/// What a file with these bytes says, whose hours are read in this manner.
-pub(crate) fn read_file(alloc: Global, bytes: &[u8], manner: Manner) -> Result<Found, AllocError>
-    ensures { IfOk result (λ found. AreOfFile manner bytes.now found.sound.items found.faults.items) }
+/// What a file with these bytes says, whose hours are read so.
+pub(crate) fn read_file(
+    alloc: Global,
+    bytes: &[u8],
+    by: HoursReading<'_>,
+) -> Result<Found, AllocError>
+    ensures { IfOk result (λ found. AreOfFile (how_read by.entry) bytes.now found.sound.items found.faults.items) }
 {
     if bytes.len() > MOST_FILE_BYTES {
         return alone(alloc, HoursFileFault::TooLarge);
     }
-    read_table(alloc, bytes, manner)
+    read_table(alloc, bytes, by)
 }

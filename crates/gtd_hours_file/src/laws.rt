@@ -1,26 +1,28 @@
 //! Laws of the definitions: calls that do nothing, whose contracts are what is proved.
 
-ghost use Rattle.std.specs.Prelude.{◌≡◌, ◌+◌, ◌*◌, ◌≤◌, ◌↔◌, ℕ, ℤ, List, Ok, Result, false, length};
+ghost use Rattle.std.specs.Prelude.{◌≡◌, ◌≤◌, ◌↔◌, ℕ, ℤ, List, None, Ok, Result, false, length};
 ghost use Rattle.gtd_core.specs.Limits.{most_file_bytes};
 ghost use Rattle.gtd_hours.specs.Opening.{IsOpen};
 ghost use Rattle.gtd_hours.specs.declared.hours.Hours.{Hours};
-ghost use Rattle.gtd_hours_loose.specs.declared.manner.Manner.{Manner};
-ghost use Rattle.gtd_hours_text.specs.Room.{HasRoom, HasVectors};
+ghost use Rattle.gtd_hours_text.specs.Room.{HasVectors};
 ghost use Rattle.gtd_migrate.specs.Migrated.{migrated};
 ghost use Rattle.gtd_records.specs.Closing.{Closes, Restriction};
 ghost use Rattle.gtd_records.specs.File.{IsFile};
 ghost use Rattle.gtd_records.specs.declared.direction.Direction.{Direction};
 ghost use Rattle.gtd_report.specs.Putting.{text_of};
-ghost use Rattle.gtd_hours_file.specs.HoursFile.{IsHoursFile};
-ghost use Rattle.gtd_hours_file.specs.SameAnswers.{AreSameRestrictions, AreSameRows, IsSameAnswer};
+ghost use Rattle.gtd_hours_file.specs.HoursFile.{HowRead, IsHoursFile};
+ghost use Rattle.gtd_hours_file.specs.SameAnswers.{AreReadInOneWay, AreSameRestrictions, AreSameRows, IsEachRead};
+ghost use Rattle.gtd_hours_file.specs.SameAnswers.{IsSameAnswer};
 ghost use Rattle.gtd_hours_file.specs.declared.fault.HoursFileFault.{HoursFileFault};
 ghost use Rattle.gtd_hours_file.specs.Translated.{IsTranslated, IsTranslation, RowCloses};
 ghost use Rattle.gtd_hours_file.specs.Warnings.{some_opens};
 ghost use Rattle.gtd_hours_file.specs.declared.row.HoursRow.{HoursRow};
 
-use gtd_hours_loose::Manner;
+use gtd_hours_grammar::laws::one_first_fault;
+use gtd_hours_holiday_rules::laws::one_holiday_text;
+use gtd_hours_known::laws::plain_readings;
 use gtd_hours_loose::laws::one_reading;
-use gtd_hours_text::laws::each_text;
+use gtd_hours_tokens::laws::one_reading as one_list_of_tokens;
 use gtd_migrate::laws::migrated_is_accepted;
 use gtd_text::laws::canonical_text_of_domain;
 
@@ -37,7 +39,7 @@ pub fn closes_as_the_hours_say()
 /// The text that is put for a file of hours is a record file of exactly the restrictions that its rows are translated to, if
 /// it has no more bytes than a record file may have.
 pub fn text_is_a_record_file()
-    ensures accepted { (how : Manner) (bytes : List ℕ) (rows : List HoursRow) (found : List Restriction)
+    ensures accepted { (how : HowRead) (bytes : List ℕ) (rows : List HoursRow) (found : List Restriction)
         → IsHoursFile how bytes (Ok rows)
         → IsTranslation rows found → length (text_of (migrated found)) ≤ most_file_bytes
         → IsFile (text_of (migrated found)) (Ok found) }
@@ -46,26 +48,34 @@ pub fn text_is_a_record_file()
     canonical_text_of_domain();
 }
 
-/// The bytes of a file of hours have one answer in a manner of reading: all that have one are at fault in the same way, or have
-/// the same rows, whose hours are open at the same seconds. Such rows are translated to restrictions of the same elements,
-/// directions and vehicle types, whose domains contain the same seconds.
+/// Where texts are read in one way, the bytes of a file of hours have one answer: all that have one are at fault in the same
+/// way, or have the same rows, whose hours are open at the same seconds. Such rows are translated to restrictions of the same
+/// elements, directions and vehicle types, whose domains contain the same seconds.
 pub fn one_answer()
-    ensures answer { (how : Manner) (bytes : List ℕ) (one other : Result (List HoursRow) (List HoursFileFault)) →
-        IsHoursFile how bytes one → IsHoursFile how bytes other → IsSameAnswer one other }
+    ensures answer { (how : HowRead) → AreReadInOneWay how
+        → (bytes : List ℕ) (one other : Result (List HoursRow) (List HoursFileFault))
+        → IsHoursFile how bytes one → IsHoursFile how bytes other → IsSameAnswer one other }
     ensures restrictions { (ones others : List HoursRow) (found also : List Restriction) → AreSameRows ones others
         → IsTranslation ones found → IsTranslation others also → AreSameRestrictions found also }
+{}
+
+/// Without a table of holidays texts are read in one way.
+pub fn one_way()
+    ensures without { (how : HowRead) → how.known.holidays ≡ None → AreReadInOneWay how }
 {
     one_reading();
+    plain_readings();
+    one_first_fault();
+    one_holiday_text();
+    one_list_of_tokens();
 }
 
-/// Each file of hours whose texts are read as they are written has an answer, where memory has room for these and their hours:
-/// its rows, or all its faults.
+/// Where each text is read or has a fault, each file of hours has an answer, if memory has room for its texts: its rows, or all
+/// its faults.
 pub fn each_file()
-    ensures some { HasRoom (20 * most_file_bytes + 4) → HasVectors ℕ most_file_bytes → (bytes : List ℕ) →
-        (answer : Result (List HoursRow) (List HoursFileFault)) × IsHoursFile Manner.Strict bytes answer }
-{
-    each_text();
-}
+    ensures some { (how : HowRead) → HasVectors ℕ most_file_bytes → IsEachRead how most_file_bytes → (bytes : List ℕ) →
+        (answer : Result (List HoursRow) (List HoursFileFault)) × IsHoursFile how bytes answer }
+{}
 
 /// Hours of which no rule opens are open at no second, so that a row that is warned of never closes.
 pub fn warned_rows_never_close()

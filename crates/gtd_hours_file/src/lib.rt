@@ -7,10 +7,11 @@
 #![tactic(auto)]
 
 pub use fault::HoursFileFault;
+pub use hours_reading::HoursReading;
 pub use refused::{
     RefusalSnippet, ambiguous_snippet, domain_snippet, hours_snippet, too_many_snippet,
 };
-pub use row::{HoursRow, RowHours};
+pub use row::{HoursRow, KnownHoliday, RowHours};
 pub use run::run_hours_records;
 pub use translated::Translated;
 pub use untranslated::Untranslated;
@@ -19,6 +20,7 @@ pub use words::HoursFaultText;
 mod fault;
 mod fault_list;
 mod file;
+mod hours_reading;
 pub mod laws;
 mod refused;
 mod row;

@@ -2,19 +2,32 @@
 
 ghost use Rattle.std.specs.Prelude.{◌≡◌, IfErr, IfOk};
 ghost use Rattle.csv.specs.Records.{fields_of};
-ghost use Rattle.gtd_hours_file.specs.HoursFile.{IsHoursOf};
+ghost use Rattle.gtd_hours_file.specs.HoursFile as file_spec;
+ghost use Rattle.gtd_hours_file.specs.HoursFile.{IsHoursOf, how_read};
 ghost use Rattle.gtd_hours_file.specs.Reading as spec;
 ghost use Rattle.gtd_hours_file.specs.Reading.{IsColumnRead, IsRowRead, IsTextStop};
 
 use crate::fault::HoursFileFault;
+use crate::hours_reading::HoursReading;
 use csv::ByteRecord;
 use gtd_core::limits::MOST_BASIC_DOMAINS;
 use gtd_hours_domain::cost_of;
-use gtd_hours_loose::{LooseFault, LooseHours, LooseReadFault, Manner, read_hours_in};
+use gtd_hours_holidays::KnownYears;
+use gtd_hours_known::{KnownFault, KnownHours, KnownReadFault, read_known_hours_in};
+use gtd_hours_loose::LooseHours;
 use gtd_records::{
     Closed, Vehicles, Version, four_columns, read_closed, read_number, read_vehicles,
 };
 use std::alloc::{AllocError, Global};
+
+/// The first holiday of a text, and the years in which holidays are known.
+#[derive(Clone, Copy)]
+pub struct KnownHoliday {
+    /// The number of bytes before the holiday.
+    pub place: usize,
+    /// The years.
+    pub years: KnownYears,
+}
 
 /// The hours of a row.
 #[derive(Drop)]
@@ -23,6 +36,8 @@ pub struct RowHours {
     pub text: Vec<u8>,
     /// What is read of it.
     pub read: LooseHours,
+    /// Its first holiday, if it has one.
+    pub holiday: Option<KnownHoliday>,
 }
 
 /// A row of a file of hours: what it closes, and when.
@@ -58,36 +73,89 @@ impl From<AllocError> for RowStop {
     }
 }
 
-// Why a text of hours is not read, in the row with this number.
-fn unread(number: u32, why: LooseReadFault) -> RowStop
-    ensures { result ≡ spec.unread number why }
+// The fault of a text of hours, in the row with this number.
+fn text_fault(number: u32, why: KnownFault) -> HoursFileFault
+    ensures { result ≡ spec.text_fault number why }
 {
     match why {
-        LooseReadFault::Fault(LooseFault::Hours(fault)) => {
-            RowStop::Fault(HoursFileFault::Hours { row: number, fault })
-        }
-        LooseReadFault::Fault(LooseFault::Ambiguous { place }) => {
-            RowStop::Fault(HoursFileFault::Ambiguous { row: number, place })
-        }
-        LooseReadFault::NoMemory => RowStop::NoMemory,
+        KnownFault::Hours(fault) => HoursFileFault::Hours { row: number, fault },
+        KnownFault::Ambiguous { place } => HoursFileFault::Ambiguous { row: number, place },
+        KnownFault::Holidays { place } => HoursFileFault::Holidays { row: number, place },
+        KnownFault::Years { place } => HoursFileFault::Years { row: number, place },
+        KnownFault::Uncovered { place, day } => HoursFileFault::Uncovered {
+            row: number,
+            place,
+            day,
+        },
     }
 }
 
-// The hours that a text stands for, or its fault in the row with this number.
-fn read_text(alloc: Global, number: u32, text: &[u8], manner: Manner) -> Result<RowHours, RowStop>
-    ensures hours { IfOk result (IsHoursOf manner text.now) }
-    ensures stop { IfErr result (IsTextStop manner number text.now) }
+// Why a text of hours is not read, in the row with this number.
+fn unread(number: u32, why: KnownReadFault) -> RowStop
+    ensures { result ≡ spec.unread number why }
 {
-    let read = match read_hours_in(alloc, text, manner) {
+    match why {
+        KnownReadFault::Fault(why) => RowStop::Fault(text_fault(number, why)),
+        KnownReadFault::NoMemory => RowStop::NoMemory,
+    }
+}
+
+// The first holiday of a text, if it has one, and the years in which holidays are known.
+fn known_holiday(first: Option<usize>, years: Option<KnownYears>) -> Option<KnownHoliday>
+    ensures { result ≡ file_spec.known_holiday first years }
+{
+    match first {
+        Some(place) => match years {
+            Some(years) => Some(KnownHoliday { place, years }),
+            None => None,
+        },
+        None => None,
+    }
+}
+
+// What is kept of a text of which this is read.
+fn kept(
+    alloc: Global,
+    text: &[u8],
+    read: KnownHours,
+    years: Option<KnownYears>,
+) -> Result<RowHours, AllocError>
+    ensures text { IfOk result (λ given. given.text.items ≡ text.now) }
+    ensures hours { IfOk result (λ given. given.read.hours ≡ read.hours) }
+    ensures form { IfOk result (λ given. given.read.form ≡ read.form) }
+    ensures holiday { IfOk result (λ given. given.holiday ≡ file_spec.known_holiday read.first_holiday years) }
+{
+    let mut text_of = Vec::new(alloc);
+    text_of.extend_from_slice(text)?;
+    Ok(RowHours {
+        text: text_of,
+        holiday: known_holiday(read.first_holiday, years),
+        read: LooseHours {
+            hours: read.hours,
+            form: read.form,
+        },
+    })
+}
+
+// The hours that a text stands for, or its fault in the row with this number.
+fn read_text(
+    alloc: Global,
+    number: u32,
+    text: &[u8],
+    reading: HoursReading<'_>,
+) -> Result<RowHours, RowStop>
+    ensures hours { IfOk result (IsHoursOf (how_read reading.entry) text.now) }
+    ensures stop { IfErr result (IsTextStop (how_read reading.entry) number text.now) }
+{
+    let read = match read_known_hours_in(alloc, text, reading.manner, reading.known) {
         Ok(read) => read,
         Err(why) => return Err(unread(number, why)),
     };
     if cost_of(&read.hours) > u32::from(MOST_BASIC_DOMAINS) {
         return Err(RowStop::Fault(HoursFileFault::TooMany { row: number }));
     }
-    let mut kept = Vec::new(alloc);
-    match kept.extend_from_slice(text) {
-        Ok(()) => Ok(RowHours { text: kept, read }),
+    match kept(alloc, text, read, reading.known.years) {
+        Ok(given) => Ok(given),
         Err(_) => Err(RowStop::NoMemory),
     }
 }
@@ -97,27 +165,27 @@ fn read_last(
     alloc: Global,
     number: u32,
     text: &[u8],
-    manner: Manner,
+    reading: HoursReading<'_>,
 ) -> Result<Option<RowHours>, RowStop>
-    ensures { IsColumnRead manner number text.now result }
+    ensures { IsColumnRead (how_read reading.entry) number text.now result }
 {
     if text.is_empty() {
         return Ok(None);
     }
-    match read_text(alloc, number, text, manner) {
+    match read_text(alloc, number, text, reading) {
         Ok(hours) => Ok(Some(hours)),
         Err(stop) => Err(stop),
     }
 }
 
-/// What the row with this number says, whose hours are read in this manner, or its first fault from the left.
+/// What the row with this number says, whose hours are read so, or its first fault from the left.
 pub(crate) fn read_row(
     alloc: Global,
     number: u32,
     row: &ByteRecord,
-    manner: Manner,
+    reading: HoursReading<'_>,
 ) -> Result<HoursRow, RowStop>
-    ensures { IsRowRead manner number (fields_of row.now) result }
+    ensures { IsRowRead (how_read reading.entry) number (fields_of row.now) result }
 {
     let Some(columns) = four_columns(row) else {
         return Err(RowStop::Fault(HoursFileFault::FieldCount { row: number }));
@@ -131,7 +199,7 @@ pub(crate) fn read_row(
     let Some(vehicles) = read_vehicles(alloc, Version::Two, columns.vehicles)? else {
         return Err(RowStop::Fault(HoursFileFault::Vehicle { row: number }));
     };
-    let hours = match read_last(alloc, number, columns.last, manner) {
+    let hours = match read_last(alloc, number, columns.last, reading) {
         Ok(hours) => hours,
         Err(stop) => return Err(stop),
     };

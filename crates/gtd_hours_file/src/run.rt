@@ -3,7 +3,7 @@
 ghost use Rattle.std.specs.Prelude.{◌≡◌, ◌<◌, ◌≤◌, ℕ, [], List, Some, IfErr, IfOk, IsErrOf, IsTrue, OnOk, length};
 ghost use Rattle.std.specs.List.{All};
 ghost use Rattle.gtd_core.specs.Limits.{most_rows};
-ghost use Rattle.gtd_hours_file.specs.HoursFile.{AreOfFile};
+ghost use Rattle.gtd_hours_file.specs.HoursFile.{AreOfFile, HowRead, how_read};
 ghost use Rattle.gtd_hours_file.specs.PuttingRows.{IsWithin, answer_of};
 ghost use Rattle.gtd_hours_file.specs.Warnings as warned;
 ghost use Rattle.gtd_hours_file.specs.Warnings.{IsWarned};
@@ -12,6 +12,7 @@ ghost use Rattle.gtd_hours_file.specs.Run.{HasTranslated, IsRefusal, IsStop, fai
 use crate::fault::HoursFileFault;
 use crate::fault_list::lines_of;
 use crate::file::read_file;
+use crate::hours_reading::HoursReading;
 use crate::row::HoursRow;
 use crate::translated::Translated;
 use crate::translation::put_records;
@@ -19,7 +20,6 @@ use crate::untranslated::Untranslated;
 use crate::warnings::warnings_of;
 use gtd_core::limits::MOST_FILE_BYTES;
 use gtd_devices::{Input, InputFault, Output, read_whole};
-use gtd_hours_loose::Manner;
 use gtd_report::{Progress, Stop};
 use std::alloc::Global;
 
@@ -58,7 +58,7 @@ fn put_sound<O: Output>(
     requires writable { O.failure_count output.old < u64.MAX }
     requires few { length rows.now ≤ most_rows }
     requires within { All IsWithin rows.now }
-    ensures stands { (how : Manner) (path : List ℕ) → AreOfFile how bytes.now rows.now []
+    ensures stands { (how : HowRead) (path : List ℕ) → AreOfFile how bytes.now rows.now []
         → HasTranslated how path (Some bytes.now) (O.taken output.old) (O.taken output.new) result }
     ensures cause { IfErr result IsStop }
     ensures ended { OnOk result (IsTrue (O.is_ended output.new)) }
@@ -95,9 +95,9 @@ fn put_warned<O: Output>(
     requires writable { O.failure_count output.old < u64.MAX }
     requires few { length rows.now ≤ most_rows }
     requires within { All IsWithin rows.now }
-    ensures stands { (how : Manner) → AreOfFile how bytes.now rows.now []
+    ensures stands { (how : HowRead) → AreOfFile how bytes.now rows.now []
         → HasTranslated how path.now (Some bytes.now) (O.taken output.old) (O.taken output.new) (warned.lines_of result) }
-    ensures warned { (how : Manner) → AreOfFile how bytes.now rows.now [] → IsWarned how path.now (Some bytes.now) result }
+    ensures warned { (how : HowRead) → AreOfFile how bytes.now rows.now [] → IsWarned how path.now (Some bytes.now) result }
     ensures cause { IfErr result IsStop }
     ensures ended { OnOk result (IsTrue (O.is_ended output.new)) }
     ensures failures { O.failure_count output.new
@@ -115,18 +115,18 @@ fn put_file<O: Output>(
     output: &mut O,
     path: &str,
     bytes: &[u8],
-    manner: Manner,
+    reading: HoursReading<'_>,
 ) -> Result<Translated, Untranslated>
     requires writable { O.failure_count output.old < u64.MAX }
-    ensures stands { HasTranslated manner path.now (Some bytes.now) (O.taken output.old) (O.taken output.new)
-        (warned.lines_of result) }
-    ensures warned { IsWarned manner path.now (Some bytes.now) result }
+    ensures stands { HasTranslated (how_read reading.entry) path.now (Some bytes.now) (O.taken output.old)
+        (O.taken output.new) (warned.lines_of result) }
+    ensures warned { IsWarned (how_read reading.entry) path.now (Some bytes.now) result }
     ensures cause { IfErr result IsStop }
     ensures ended { OnOk result (IsTrue (O.is_ended output.new)) }
     ensures failures { O.failure_count output.new
         ≡ failures_after_putting result (O.failure_count output.old) }
 {
-    let Ok(found) = read_file(alloc, bytes, manner) else {
+    let Ok(found) = read_file(alloc, bytes, reading) else {
         return Err(Untranslated::NoMemory { written: 0 });
     };
     if !found.faults.is_empty() {
@@ -136,9 +136,10 @@ fn put_file<O: Output>(
 }
 
 /// Puts the record file of version 2 that a file of hours stands for, which an input brings and whose texts are read in this
-/// manner: its rows in their order, each with the canonical text of a domain that contains exactly the seconds at which its hours
-/// are open, and with none if it has no hours. Answers the number of lines, the header included, and the warnings of the rows:
-/// where a text of hours is written loosely, which of its rules hide hours, and that no rule opens.
+/// manner and with what is known of holidays: its rows in their order, each with the canonical text of a domain that contains
+/// exactly the seconds at which its hours are open, and with none if it has no hours. Answers the number of lines, the header
+/// included, and the warnings of the rows: where a text of hours is written loosely; in which years its holidays are known, or
+/// else which of its rules hide hours; and that no rule opens.
 ///
 /// Errors, in their order: `ReadFault`, `Endless` or `NoMemory` while the input is read; `Faults` if the file is at fault,
 /// with the list of all its faults for this path; then `WriteFault` or `NoMemory`, whichever happens first. Nothing is put
@@ -149,18 +150,18 @@ pub fn run_hours_records<I: Input, O: Output>(
     input: &mut I,
     output: &mut O,
     path: &str,
-    manner: Manner,
+    reading: HoursReading<'_>,
 ) -> Result<Translated, Untranslated>
     requires readable { I.failure_count input.old < u64.MAX }
     requires writable { O.failure_count output.old < u64.MAX }
     // What each answer means. The number of lines: of a file of hours, the output took the record file that its rows are
     // translated to. `Faults`: the text lists all faults of the bytes, and nothing was put. `WriteFault`, or `NoMemory`
     // after the whole file was read: the output took a first part of the lines of the first rows.
-    ensures stands { HasTranslated manner path.now (I.to_come input.old) (O.taken output.old) (O.taken output.new)
-        (warned.lines_of result) }
+    ensures stands { HasTranslated (how_read reading.entry) path.now (I.to_come input.old) (O.taken output.old)
+        (O.taken output.new) (warned.lines_of result) }
     // The warnings of a file of hours are those of the texts of its rows, and of those that never close, each with the line on
     // which the row begins.
-    ensures warned { IsWarned manner path.now (I.to_come input.old) result }
+    ensures warned { IsWarned (how_read reading.entry) path.now (I.to_come input.old) result }
     // An output that took the whole text was then ended, last of all.
     ensures ended { OnOk result (IsTrue (O.is_ended output.new)) }
     ensures endless { IsErrOf result Untranslated.Endless → IsTrue (I.may_fall_silent input.old) }
@@ -170,7 +171,7 @@ pub fn run_hours_records<I: Input, O: Output>(
         ≡ failures_after_putting result (O.failure_count output.old) }
 {
     match read_whole(alloc, input, MOST_FILE_BYTES) {
-        Ok(bytes) => put_file(alloc, output, path, bytes.as_slice(), manner),
+        Ok(bytes) => put_file(alloc, output, path, bytes.as_slice(), reading),
         Err(InputFault::TooLarge) => Err(refusal(alloc, path, &[], &[HoursFileFault::TooLarge])),
         Err(InputFault::ReadFault) => Err(Untranslated::ReadFault),
         Err(InputFault::Endless) => Err(Untranslated::Endless),

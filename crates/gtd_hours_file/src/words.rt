@@ -2,16 +2,53 @@
 
 ghost use Rattle.std.specs.Prelude.{◌≡◌, Some, option_map};
 ghost use Rattle.gtd_hours_file.specs.Listing as spec;
-ghost use Rattle.gtd_hours_file.specs.Listing.{fault_text};
+ghost use Rattle.gtd_hours_file.specs.Listing.{day_text, fault_text, uncovered_text};
 
 use crate::fault::HoursFileFault;
-use gtd_faults::accepted as accepted_of_record;
+use gtd_calendar::{FIRST_CALENDAR_DAY, LAST_CALENDAR_DAY, write_date};
+use gtd_faults::{Printable, accepted as accepted_of_record};
 use gtd_hours_grammar::FaultKind;
 use gtd_records::RecordFault;
 use std::fmt;
 use std::fmt::{Display, Formatter};
 
-/// A fault in words: its row, if it has one; its kind; and for a fault of hours, the place.
+/// A day as a date; nothing, if the calendar has none.
+#[derive(Drop)]
+struct DayText(i64);
+
+impl Display for DayText {
+    ghost output = { λ shown. Some (day_text shown.0) };
+
+    fn fmt<W: fmt::Write>(&self, f: &mut Formatter<W>) -> fmt::Result {
+        if self.0 < FIRST_CALENDAR_DAY {
+            return Ok(());
+        }
+        if LAST_CALENDAR_DAY < self.0 {
+            return Ok(());
+        }
+        let date = write_date(self.0);
+        write!(f, "{}", Printable(&date))
+    }
+}
+
+/// That a table does not cover a day, for the holiday at a place.
+#[derive(Drop)]
+struct UncoveredText {
+    place: usize,
+    day: i64,
+}
+
+impl Display for UncoveredText {
+    ghost output = { λ shown. Some (uncovered_text shown.place shown.day) };
+
+    fn fmt<W: fmt::Write>(&self, f: &mut Formatter<W>) -> fmt::Result {
+        let place = self.place;
+        let day = DayText(self.day);
+        write!(f, "Uncovered at {place}: {day}")
+    }
+}
+
+/// A fault in words: its row, if it has one; its kind; for a fault of hours, the place; and a day that a table does not cover.
 #[derive(Clone, Copy)]
 pub struct HoursFaultText(pub HoursFileFault);
 
@@ -33,6 +70,16 @@ impl Display for HoursFaultText {
             }
             HoursFileFault::Ambiguous { row, place } => {
                 write!(f, "row {row}: Hours Ambiguous at {place}")
+            }
+            HoursFileFault::Holidays { row, place } => {
+                write!(f, "row {row}: Hours Holidays at {place}")
+            }
+            HoursFileFault::Years { row, place } => {
+                write!(f, "row {row}: Hours Years at {place}")
+            }
+            HoursFileFault::Uncovered { row, place, day } => {
+                let uncovered = UncoveredText { place, day };
+                write!(f, "row {row}: Hours {uncovered}")
             }
             HoursFileFault::TooMany { row } => write!(f, "row {row}: Hours TooMany at 0"),
             HoursFileFault::TooManyRows => write!(f, "row 65537: TooManyRows"),
@@ -73,6 +120,15 @@ pub fn accepted(fault: HoursFileFault) -> Option<&'static str>
         HoursFileFault::Ambiguous { .. } => {
             Some("what is read in one way: weekdays in English, and times such as 08:00")
         }
+        HoursFileFault::Holidays { .. } => {
+            Some("a table of holidays: give one with --holidays FILE")
+        }
+        HoursFileFault::Years { .. } => {
+            Some("the years in which holidays are known: give them with --years F-L")
+        }
+        HoursFileFault::Uncovered { .. } => Some(
+            "a table with all holidays of these years, and rows that say so: PH-covered or SH-covered",
+        ),
         HoursFileFault::TooMany { .. } => Some("hours that take at most 128 basic domains"),
         HoursFileFault::TooManyRows => accepted_of_record(RecordFault::TooManyRows),
         HoursFileFault::TooLarge => accepted_of_record(RecordFault::TooLarge),

@@ -2,11 +2,12 @@
 use Rattle.std.specs.Prelude.{ℕ, ◌==◌, List, [], ◌∷◌, ◌++◌, codes, decimal, if◌then◌else◌}
 use Rattle.gtd_hours_warnings.specs.declared.warnings.Warning.{Warning}
 use Rattle.gtd_hours_warnings.specs.declared.warnings.WarningKind.{WarningKind}
-use Rattle.gtd_hours_warnings.specs.declared.warnings.WarningKind.TheVariants.{Loose, Hides}
+use Rattle.gtd_hours_warnings.specs.declared.warnings.WarningKind.TheVariants.{Loose, Hides, KnownYears}
 
 abbrev pub kind_name : WarningKind → List ℕ
 kind_name Loose = codes "Loose"
 kind_name Hides = codes "Hides"
+kind_name KnownYears = codes "KnownYears"
 
 -- What a warning says of a form: a space is named, and of an empty one nothing is said.
 abbrev pub form_label : List ℕ → List ℕ

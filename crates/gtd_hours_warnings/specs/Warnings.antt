@@ -1,9 +1,11 @@
 -- The warnings of a text.
 use Rattle.std.specs.Prelude.{◌≡◌, ◌↔◌, ◌<◌, ℕ, Bool, true, false, List, [], ◌∷◌, ◌++◌, length, nat_le, Option, Some, None}
+use Rattle.std.specs.Prelude.{codes, decimal}
 use Rattle.std.specs.List.{Contains, insert, prefix_len}
 use Rattle.std.specs.List.Sorted.{IsStrictlyIncreasing}
 use Rattle.gtd_hours.specs.declared.hours.Hours.{Hours}
 use Rattle.gtd_hours_hidden.specs.Hides.{Hides}
+use Rattle.gtd_hours_holidays.specs.declared.known_years.KnownYears.{KnownYears}
 use Rattle.gtd_hours_loose.specs.Mending.{is_loose, stretch, written_place}
 use Rattle.gtd_hours_loose.specs.declared.reader.LooseHours.{LooseHours}
 use Rattle.gtd_hours_loose.specs.declared.strict.Part.{Part}
@@ -88,6 +90,28 @@ pub record AreWarnings (text : List ℕ) (read : LooseHours) (found : List Warni
   pub hide : (k : ℕ) → Contains rules k ↔ Hides read.hours.rules.items k
   pub in_order : IsStrictlyIncreasing rules
   pub put : AddsHides text read rules loose found
+
+-- ---- of a text with holidays
+
+-- the years as a warning names them: `F-L`, also if they are the same
+abbrev pub years_text : KnownYears → List ℕ
+years_text years = decimal years.first ++ codes "-" ++ decimal years.last
+
+-- The warning that a holiday at this place is known in these years alone.
+pub record IsKnownYearsWarning (place : ℕ) (years : KnownYears) (w : Warning) : Type 0 where
+  pub kind : w.kind ≡ kind.KnownYears
+  pub at : w.place ≡ place
+  pub form : w.form.items ≡ years_text years
+
+-- The warnings of a text with this strict form, if it has one of its own, whose first holiday is at this place: of what is written
+-- loosely, in its order; and put to these, at its place, that the holidays are known in these years alone.
+pub record AreHolidayWarnings (text : List ℕ) (form : Option StrictForm) (place : ℕ) (years : KnownYears) (found : List Warning)
+    : Type 0 where
+  pub loose : List Warning
+  pub are_loose : AddsLooseForm text form loose
+  pub known : Warning
+  pub is_known : IsKnownYearsWarning place years known
+  pub put : found ≡ put_in known loose
 
 -- ---- as the code goes
 

@@ -13,6 +13,7 @@ fn kind_name(kind: WarningKind) -> &'static [u8]
     match kind {
         WarningKind::Loose => b"Loose".as_slice(),
         WarningKind::Hides => b"Hides".as_slice(),
+        WarningKind::KnownYears => b"KnownYears".as_slice(),
     }
 }
 

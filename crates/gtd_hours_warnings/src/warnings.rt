@@ -3,13 +3,15 @@
 ghost use Rattle.std.specs.Prelude.{◌≡◌, ◌<◌, ◌≤◌, [], IfOk, OnOk, length};
 ghost use Rattle.std.specs.List.{prefix_len};
 ghost use Rattle.gtd_hours_warnings.specs.Warnings.{AddsHides, AddsLoose, AddsLooseForm, AreWarnings, IsHidesWarning};
-ghost use Rattle.gtd_hours_warnings.specs.Warnings.{IsLooseWarning};
+ghost use Rattle.gtd_hours_warnings.specs.Warnings.{AreHolidayWarnings, IsKnownYearsWarning, IsLooseWarning};
 ghost use Rattle.gtd_hours_warnings.specs.Warnings.{AreRules, IsPutIf, is_by, place_in, put_in, strict_text};
 
 use crate::commas::{rule_place, semicolon_of, word_before};
 use crate::forms::joined_form;
 use gtd_hours_hidden::hiding_rules;
+use gtd_hours_holidays::KnownYears;
 use gtd_hours_loose::{LooseHours, Part, StrictForm, is_loose, stretch, written_place};
+use itoa::Buffer;
 use std::alloc::{AllocError, Global};
 
 /// What a warning is of.
@@ -19,6 +21,8 @@ pub enum WarningKind {
     Loose,
     /// A rule that hides hours of an earlier one.
     Hides,
+    /// A holiday, which is known in some years alone.
+    KnownYears,
 }
 
 /// A warning of a text of opening hours.
@@ -26,9 +30,10 @@ pub enum WarningKind {
 pub struct Warning {
     /// What it is of.
     pub kind: WarningKind,
-    /// The number of bytes before the token, or before the rule.
+    /// The number of bytes before the token, before the rule, or before the holiday.
     pub place: usize,
-    /// What is written there strictly; or the hours with a comma before the rule, as they are strictly written. It may be empty.
+    /// What is written there strictly; or the hours with a comma before the rule, as they are strictly written; or the years. It
+    /// may be empty.
     pub form: Vec<u8>,
 }
 
@@ -191,5 +196,42 @@ pub fn warnings_of(
     let mut warnings = form_warnings(alloc, text, &read.form)?;
     let rules = hiding_rules(alloc, &read.hours)?;
     add_hides(alloc, &mut warnings, text, read, rules.as_slice())?;
+    Ok(warnings)
+}
+
+// The warning that the holiday at this place, and all others, are known in these years alone.
+fn known_years_warning(
+    alloc: Global,
+    place: usize,
+    years: KnownYears,
+) -> Result<Warning, AllocError>
+    ensures { IfOk result (IsKnownYearsWarning place years) }
+{
+    let mut form = Vec::new(alloc);
+    form.extend_from_slice(Buffer::new().format(years.first).as_bytes())?;
+    form.extend_from_slice(b"-")?;
+    form.extend_from_slice(Buffer::new().format(years.last).as_bytes())?;
+    Ok(Warning {
+        kind: WarningKind::KnownYears,
+        place,
+        form,
+    })
+}
+
+/// The warnings of a text with this strict form, if it has one of its own, whose first holiday is at this place, and whose
+/// holidays are known in these years: in the order of their places where it is written loosely, and the years at the holiday.
+/// `AllocError` is answered only if memory was refused.
+pub fn holiday_warnings_of(
+    alloc: Global,
+    text: &[u8],
+    form: &Option<StrictForm>,
+    place: usize,
+    years: KnownYears,
+) -> Result<Vec<Warning>, AllocError>
+    ensures { IfOk result (λ found. AreHolidayWarnings text.now form.now place years found.items) }
+{
+    let mut warnings = form_warnings(alloc, text, form)?;
+    let warning = known_years_warning(alloc, place, years)?;
+    put_in(&mut warnings, warning)?;
     Ok(warnings)
 }

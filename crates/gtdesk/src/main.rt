@@ -9,11 +9,12 @@
 #![tactic(auto)]
 
 use gtd_devices::{Host, HostOut, InputFault, read_whole};
+use gtd_hours_holidays::Holidays;
 use gtdesk_tool::{
-    ConditionsPlan, DiffPlan, Ending, Files, LineRefusal, Moment, OnePlan, Plan, Refusal,
-    RefusalLines, RunRefusal, Turn, WordsRefusal, ZonePlan, joined, moment_in_zone, no_zone,
-    perform, perform_ask, perform_conditions, perform_diff, plan, refused_file, refused_table,
-    word_snippet, zone_path,
+    ConditionsPlan, DiffPlan, Ending, Files, Known, LineRefusal, Moment, OnePlan, Plan,
+    RecordsPlan, Refusal, RefusalLines, RunRefusal, Turn, WordsRefusal, ZonePlan, joined,
+    moment_in_zone, no_zone, perform, perform_ask, perform_conditions, perform_diff, plan,
+    read_table, refused_file, refused_table, word_snippet, zone_path,
 };
 use std::fs::File;
 use std::io::{BufWriter, ErrorKind, Read};
@@ -71,12 +72,13 @@ fn run_file(rt: &HostRuntime, turn: Turn<'_>) -> Result<Ending, RunRefusal> {
     }
 }
 
-// Carries a plan out for one file after the other, and tells why a file is refused. After an output that failed, no file follows.
-fn run_files(rt: &HostRuntime, plan: &OnePlan, paths: &[String]) -> ExitCode {
+// Carries a plan out for one file after the other, where this is known of holidays, and tells why a file is refused. After an
+// output that failed, no file follows.
+fn run_files(rt: &HostRuntime, plan: &OnePlan, known: &Known, paths: &[String]) -> ExitCode {
     let mut ended = Ok(Ending::Done);
     for path in paths {
         let path = path.as_str();
-        let answer = run_file(rt, Turn { plan, path });
+        let answer = run_file(rt, Turn { plan, path, known });
         if let Err(refusal) = answer {
             tell(rt, Refusal::Run(refusal), path, "");
         }
@@ -88,14 +90,59 @@ fn run_files(rt: &HostRuntime, plan: &OnePlan, paths: &[String]) -> ExitCode {
     status_of(ended)
 }
 
+// The table of holidays of this path, from a reader; or none, if its faults were told.
+fn table_from<R: Read + Drop>(
+    rt: &HostRuntime,
+    path: &str,
+    reader: R,
+) -> Result<Option<Holidays>, RunRefusal> {
+    let mut input = Host::new(reader);
+    let mut errors = HostOut::new(rt.stderr());
+    read_table(rt.alloc(), &mut input, &mut errors, path)
+}
+
+// The table of holidays at this path, or none, if its faults were told.
+fn table_at(rt: &HostRuntime, path: &str) -> Result<Option<Holidays>, RunRefusal> {
+    match path {
+        "-" => table_from(rt, path, rt.stdin()),
+        path => table_from(rt, path, open(rt, path)?),
+    }
+}
+
+// Carries the plan of `records` out, by its table of holidays, if one is given. If that is refused or at fault, no file follows.
+fn run_records(rt: &HostRuntime, plan: &OnePlan, records: &RecordsPlan) -> ExitCode {
+    let years = records.years;
+    let holidays = match &records.holidays {
+        Some(path) => match table_at(rt, path.as_str()) {
+            Ok(Some(table)) => Some(table),
+            Ok(None) => return ExitCode::from(Ending::FaultsListed.status()),
+            Err(refusal) => return finish(rt, Err(refusal), path.as_str(), ""),
+        },
+        None => None,
+    };
+    let known = Known { holidays, years };
+    run_files(rt, plan, &known, records.files.as_slice())
+}
+
 // Carries a plan out that reads one file at a time, or none.
 fn run_one(rt: &HostRuntime, plan: &OnePlan) -> ExitCode {
+    if let OnePlan::Records(records) = plan {
+        return run_records(rt, plan, records);
+    }
+    let known = &Known {
+        holidays: None,
+        years: None,
+    };
     match plan.files() {
-        Files::Several(paths) => run_files(rt, plan, paths),
-        Files::One(path) => finish(rt, run_file(rt, Turn { plan, path }), path, ""),
+        Files::Several(paths) => run_files(rt, plan, known, paths),
+        Files::One(path) => {
+            let answer = run_file(rt, Turn { plan, path, known });
+            finish(rt, answer, path, plan.hours_text())
+        }
         Files::None => {
-            let answer = print(rt, Turn { plan, path: "" }, io::empty());
-            finish(rt, answer, "", plan.hours_text())
+            let path = "";
+            let answer = print(rt, Turn { plan, path, known }, io::empty());
+            finish(rt, answer, path, plan.hours_text())
         }
     }
 }

@@ -88,7 +88,9 @@ all_named form.Faults rows =
     (given_named (kept_as form.Faults rows) (first_of (codes "at") rows) name.Day Reading.day refl (λ t. refl))
 all_named form.Words rows =
     (refl, given_named (kept_as form.Words rows) (first_of (codes "lang") rows) name.Language Reading.language refl (λ t. refl))
-all_named form.Hours rows = day_names_named form.Hours rows refl
+all_named form.Hours rows =
+    both_named (kept_as form.Hours rows) _ _ (day_names_named form.Hours rows refl)
+    (given_named (kept_as form.Hours rows) (first_of (codes "years") rows) name.Years Reading.years refl (λ t. refl))
 all_named form.HoursOf rows = (refl, tt)
 all_named form.Same rows = (
   refl,
@@ -109,7 +111,9 @@ all_named form.SameHours rows = (
 all_named form.SameRows rows = tt
 all_named form.Diff rows = (refl, (refl, (refl, (refl, tt))))
 all_named form.Ask rows = tt
-all_named form.Records rows = day_names_named form.Records rows refl
+all_named form.Records rows =
+    both_named (kept_as form.Records rows) _ _ (day_names_named form.Records rows refl)
+    (given_named (kept_as form.Records rows) (first_of (codes "years") rows) name.Years Reading.years refl (λ t. refl))
 all_named form.Conditions rows = tt
 all_named form.Mend rows = tt
 all_named form.MendHours rows = day_names_named form.MendHours rows refl

@@ -5,6 +5,7 @@ use Rattle.clap.specs.Walk.{Row, first_of}
 use Rattle.gtd_core.specs.declared.domain.Domain.{Domain}
 use Rattle.gtd_core.specs.declared.horizon.Horizon.{Horizon}
 use Rattle.gtd_core.specs.declared.second.Sec.{Sec}
+use Rattle.gtd_hours_holidays.specs.declared.known_years.KnownYears.{KnownYears}
 use Rattle.gtd_hours_loose_tokens.specs.declared.token.DayNames.{DayNames}
 use Rattle.gtd_mistakes.specs.declared.rule.Rule.{Rule}
 use Rattle.gtdesk_plans.specs.Arguments.{Text}
@@ -22,14 +23,17 @@ use Rattle.gtdesk_plans.specs.Commands.Words as words
 use Rattle.gtdesk_words.specs.HoursWords.{HasDomain, IsHoursDomain}
 use Rattle.gtdesk_words.specs.Readings.{AllStand, Reading, Word, if_given, word_as}
 use Rattle.gtdesk_words.specs.Words.{AreRulesIn, IsDayIn, IsDayWord, IsFromWord, day_names_for, elements_in, language_for}
+use Rattle.gtdesk_words.specs.YearsWords.{AreYearsIn, IsYearsWord}
 use Rattle.gtdesk_plans.specs.Rows.{text_of}
 use Rattle.gtdesk_plans.specs.declared.commands.diff.DiffPlan.{DiffPlan}
 use Rattle.gtdesk_plans.specs.declared.commands.faults.FaultsPlan.{FaultsPlan}
+use Rattle.gtdesk_plans.specs.declared.commands.hours.HoursPlan.{HoursPlan}
 use Rattle.gtdesk_plans.specs.declared.commands.now.NowPlan.{NowPlan}
 use Rattle.gtdesk_plans.specs.declared.commands.now.NowView.{NowView}
 use Rattle.gtdesk_plans.specs.declared.commands.now.ZonePlan.{ZonePlan}
 use Rattle.gtdesk_plans.specs.declared.commands.picture.DomainPicturePlan.{DomainPicturePlan}
 use Rattle.gtdesk_plans.specs.declared.commands.picture.PictureSubject.{PictureSubject}
+use Rattle.gtdesk_plans.specs.declared.commands.records.RecordsPlan.{RecordsPlan}
 use Rattle.gtdesk_plans.specs.declared.commands.same.SamePlan.{SamePlan}
 use Rattle.gtdesk_plans.specs.declared.forms.Form.{Form}
 use Rattle.gtdesk_plans.specs.declared.forms.Form.TheVariants as form
@@ -56,6 +60,11 @@ day_names_stand : (text : Option Text) (names : DayNames) → day_names_for text
     → AllStand (if_given text (λ t. word_as name.Names (Reading.day_names t)))
 day_names_stand None names e = tt
 day_names_stand (Some text) names e = (ap is_some e, tt)
+
+years_stand : (text : Option Text) (years : Option KnownYears) → AreYearsIn text years
+    → AllStand (if_given text (λ t. word_as name.Years (Reading.years t)))
+years_stand None years are = tt
+years_stand (Some text) years are = (some_and years (IsYearsWord text) are, tt)
 
 from_stands : (text : Option Text) (second : Sec) → IsFromWord text second
     → AllStand (if_given text (λ t. word_as name.Moment (Reading.moment t)))
@@ -107,6 +116,16 @@ faults_stand rows p h =
     both_stand _ _ (rules_stand (first_of (codes "allow") rows) h.off h.rules)
     (day_stands (first_of (codes "at") rows) h.days h.day)
 
+hours_stand : (rows : List Row) (p : HoursPlan) → hours.IsTextPlan rows p → AllStand (hours.words rows)
+hours_stand rows p h =
+    both_stand _ _ (day_names_stand (first_of (codes "day-names") rows) p.names h.names)
+    (years_stand (first_of (codes "years") rows) p.years h.years)
+
+records_stand : (rows : List Row) (p : RecordsPlan) → records.IsPlan rows p → AllStand (records.words rows)
+records_stand rows p h =
+    both_stand _ _ (day_names_stand (first_of (codes "day-names") rows) p.names h.names)
+    (years_stand (first_of (codes "years") rows) p.years h.years)
+
 diff_stand : (rows : List Row) (p : DiffPlan) → diff.IsPlan rows p → AllStand (diff.words rows)
 diff_stand rows p h = ((_, h.2.first), ((_, h.2.last), ((p.horizon, h.2), ((p.vehicle, h.3), tt))))
 
@@ -125,8 +144,7 @@ all_stand form.Words rows p h =
     let x = some_and (words.plan_in p) (words.IsPlan rows) h in
     (x.1.0.faultless, language_stands (first_of (codes "lang") rows) x.0.language x.1.1)
 all_stand form.Hours rows p h =
-    let x = some_and (hours.text_plan_in p) (hours.IsTextPlan rows) h in
-    day_names_stand (first_of (codes "day-names") rows) x.0.names x.1.2
+    let x = some_and (hours.text_plan_in p) (hours.IsTextPlan rows) h in hours_stand rows x.0 x.1
 all_stand form.HoursOf rows p h = let x = some_and (hours.plan_in p) _ h in (x.1.faultless, tt)
 all_stand form.Same rows p h = let x = some_and (same.plan_in p) (same.IsPlan rows) h in same_stand rows x.0 x.1
 all_stand form.SameHours rows p h = let x = some_and (same.plan_in p) (same.IsHoursPlan rows) h in same_hours_stand rows x.0 x.1
@@ -134,8 +152,7 @@ all_stand form.SameRows rows p h = tt
 all_stand form.Diff rows p h = let x = some_and (diff.plan_in p) (diff.IsPlan rows) h in diff_stand rows x.0 x.1
 all_stand form.Ask rows p h = tt
 all_stand form.Records rows p h =
-    let x = some_and (records.plan_in p) (records.IsPlan rows) h in
-    day_names_stand (first_of (codes "day-names") rows) x.0.names x.1.2
+    let x = some_and (records.plan_in p) (records.IsPlan rows) h in records_stand rows x.0 x.1
 all_stand form.Conditions rows p h = tt
 all_stand form.Mend rows p h = tt
 all_stand form.MendHours rows p h =

@@ -2,7 +2,7 @@
 use Rattle.std.specs.Prelude.{◌≡◌, ◌⊎◌, ◌||◌, ◌&&◌, Bool, false, List, [], ◌∷◌, Option, Some, None, Result, Ok, Err, codes}
 use Rattle.std.specs.Prelude.{if◌then◌else◌, is_ok, length, nat_lt, not}
 use Rattle.std.specs.Str.{bytes_eq}
-use Rattle.clap.specs.Walk.{Row}
+use Rattle.clap.specs.Walk.{Row, first_of}
 use Rattle.clap.specs.Simple.{subcommand_of}
 use Rattle.clap.specs.Kinds.{IsAmong}
 use Rattle.clap.specs.Faults.{fault_of}
@@ -11,7 +11,8 @@ use Rattle.gtdesk_plans.specs.Arguments.{Text}
 use Rattle.gtdesk_plans.specs.CommandLine.{desk_app, is_request, usage_text}
 use Rattle.gtdesk_plans.specs.Hints.{meant_by}
 use Rattle.gtd_moments.specs.Moments.{moment_in}
-use Rattle.gtdesk_plans.specs.Rows.{but_last, from_last, has_value, is_given, is_read_once, text_of, texts_of}
+use Rattle.gtdesk_plans.specs.Rows.{but_last, from_last, has_input, has_value, is_given, is_input, is_read_once, text_of}
+use Rattle.gtdesk_plans.specs.Rows.{texts_of}
 use Rattle.gtdesk_plans.specs.declared.forms.Form.{Form}
 use Rattle.gtdesk_plans.specs.declared.forms.Form.TheVariants as form
 use Rattle.gtdesk_plans.specs.declared.forms.Misuse.{Misuse}
@@ -20,7 +21,7 @@ use Rattle.gtdesk_plans.specs.declared.forms.Misuse.TheVariants as misuse
 -- What is wrong with the words of a command that have no fault and do not give all that it takes, or more.
 abbrev pub told_of : Misuse → Text
 told_of misuse.TextOrDomain = codes "hours takes either TEXT or --of DOMAIN"
-told_of misuse.OptionsOfText = codes "hours takes --strict and --day-names with TEXT alone"
+told_of misuse.OptionsOfText = codes "hours takes --strict, --day-names, --holidays and --years with TEXT alone"
 told_of misuse.WordsOrFile = codes "same takes either FIRST and SECOND or --file FILE alone"
 told_of misuse.NoWarnings = codes "faults takes --allow and --at with --warn alone"
 told_of misuse.FileOrHours = codes "mend takes either FILE or hours TEXT"
@@ -66,6 +67,16 @@ faults_form rows =
     warned_form (is_given (codes "warn") rows) (has_value (codes "allow") rows) (has_value (codes "at") rows)
     (texts_of (codes "FILE") rows)
 
+-- `records` of files, where the table of holidays may be standard input: then none of the files is.
+abbrev pub records_form : Bool → List Text → Result Form Misuse
+records_form table files = if table && has_input files then Err misuse.InputTwice else form_with form.Records files
+
+-- Whether options of a text are given to `hours`.
+abbrev pub has_text_options : List Row → Bool
+has_text_options rows =
+    is_given (codes "strict") rows
+    || (has_value (codes "day-names") rows || (has_value (codes "holidays") rows || has_value (codes "years") rows))
+
 -- `hours` of a text or of a domain, of which one is given; options of texts go with a text.
 abbrev pub hours_form : Bool → Bool → Bool → Result Form Misuse
 hours_form text domain options =
@@ -106,11 +117,11 @@ form_in found =
     else if bytes_eq found.0 (codes "words") then Ok form.Words
     else if bytes_eq found.0 (codes "hours")
     then hours_form (has_value (codes "TEXT") found.1) (has_value (codes "of") found.1)
-    (is_given (codes "strict") found.1 || has_value (codes "day-names") found.1)
+    (has_text_options found.1)
     else if bytes_eq found.0 (codes "same") then same_form found.1
     else if bytes_eq found.0 (codes "diff") then Ok form.Diff
     else if bytes_eq found.0 (codes "ask") then Ok form.Ask
-    else if bytes_eq found.0 (codes "records") then form_with form.Records (texts_of (codes "FILE") found.1)
+    else if bytes_eq found.0 (codes "records") then records_form (is_input (first_of (codes "holidays") found.1)) (texts_of (codes "FILE") found.1)
     else if bytes_eq found.0 (codes "conditions")
     then form_with form.Conditions (text_of (codes "TAGS") found.1 ∷ text_of (codes "MEANS") found.1 ∷ [])
     else if bytes_eq found.0 (codes "mend") then mend_form found.1

@@ -9,6 +9,7 @@ pub mod Plans
 pub mod Refused
 pub use Rattle.gtdesk_words.specs.Text
 pub use Rattle.gtdesk_words.specs.Words
+pub use Rattle.gtdesk_words.specs.YearsWords
 pub use Rattle.gtdesk_words.specs.HoursWords
 pub use Rattle.gtdesk_words.specs.Readings
 pub use Rattle.gtdesk_words.specs.Statuses

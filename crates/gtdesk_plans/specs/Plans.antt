@@ -1,5 +1,5 @@
 -- What a command line asks for, and why it is refused.
-use Rattle.std.specs.Prelude.{◌≡◌, ⊤, List, [], ◌∷◌, map, option_map, string_bytes}
+use Rattle.std.specs.Prelude.{◌≡◌, ⊤, List, [], ◌∷◌, Option, Some, None, map, option_map, string_bytes}
 use Rattle.clap.specs.declared.error.kind.ErrorKind.{ErrorKind}
 use Rattle.clap.specs.declared.error.kind.ErrorKind.TheVariants.{DisplayVersion}
 use Rattle.gtdesk_plans.specs.Arguments.{Text}
@@ -61,6 +61,11 @@ KeepsWord words (refusal.Word fault) word =
     (given : Given) × Give words given × IsRefusedText (words_of given.form given.rows) fault word
 KeepsWord words other word = word ≡ []
 
+-- The path of a file that may be left out.
+abbrev pub path_if : Option Text → List Text
+path_if None = []
+path_if (Some path) = path ∷ []
+
 -- The paths of the files that a plan reads, one after the other.
 abbrev pub files_of : OnePlan → List Text
 files_of (one.Now p) = map string_bytes p.files.items
@@ -69,6 +74,7 @@ files_of (one.Picture p) = string_bytes p.file ∷ []
 files_of (one.SameRows files) = map string_bytes files.items
 files_of (one.Records p) = map string_bytes p.files.items
 files_of (one.Mend file) = string_bytes file ∷ []
+files_of (one.DomainOf p) = path_if (option_map string_bytes p.holidays)
 files_of other = []
 
 -- The same of what a plan answers.

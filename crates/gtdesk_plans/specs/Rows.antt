@@ -39,6 +39,11 @@ abbrev pub has_input : List Text → Bool
 has_input [] = false
 has_input (file ∷ files) = bytes_eq file (codes "-") || has_input files
 
+-- A file that may be left out is standard input.
+abbrev pub is_input : Option Text → Bool
+is_input None = false
+is_input (Some file) = bytes_eq file (codes "-")
+
 -- It is among them once at most.
 abbrev pub is_read_once : List Text → Bool
 is_read_once [] = true

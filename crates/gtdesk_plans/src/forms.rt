@@ -1,13 +1,17 @@
 //! The forms of commands.
 
-ghost use Rattle.std.specs.Prelude.{◌≡◌, is_ok, map};
+ghost use Rattle.std.specs.Prelude.{◌≡◌, codes, is_ok, map};
 ghost use Rattle.clap.specs.Matches.{found_of};
-ghost use Rattle.clap.specs.Walk.{rows_of};
+ghost use Rattle.clap.specs.Walk.{first_of, rows_of};
 ghost use Rattle.gtd_moments.specs.Moments.{moment_in};
 ghost use Rattle.gtdesk_plans.specs.Given as spec;
+ghost use Rattle.gtdesk_plans.specs.Rows as rows_spec;
 ghost use Rattle.gtdesk_plans.specs.Rows.{texts_of};
 
-use crate::given::{but_last, from_last, has_value, is_given, is_once, is_read_once, text, values};
+use crate::given::{
+    but_last, from_last, has_value, is_given, is_input, is_once, is_read_once, reads_input, text,
+    value, values,
+};
 use clap::ArgMatches;
 use gtd_moments::read_moment;
 
@@ -85,7 +89,9 @@ impl Misuse {
     {
         match self {
             Misuse::TextOrDomain => "hours takes either TEXT or --of DOMAIN",
-            Misuse::OptionsOfText => "hours takes --strict and --day-names with TEXT alone",
+            Misuse::OptionsOfText => {
+                "hours takes --strict, --day-names, --holidays and --years with TEXT alone"
+            }
             Misuse::WordsOrFile => "same takes either FIRST and SECOND or --file FILE alone",
             Misuse::NoWarnings => "faults takes --allow and --at with --warn alone",
             Misuse::FileOrHours => "mend takes either FILE or hours TEXT",
@@ -111,7 +117,18 @@ fn form_with(form: Form, given: &ArgMatches<'_>, name: &str) -> Result<Form, Mis
     }
 }
 
-// The same of these files.
+// The form of `records`, whose table of holidays may be standard input.
+fn records_form(given: &ArgMatches<'_>) -> Result<Form, Misuse>
+    ensures { result ≡ spec.records_form (rows_spec.is_input (first_of (codes "holidays") (rows_of (found_of given.now))))
+        (texts_of (codes "FILE") (rows_of (found_of given.now))) }
+{
+    if is_input(value(given, "holidays")) && reads_input(given, "FILE") {
+        return Err(Misuse::InputTwice);
+    }
+    form_with(Form::Records, given, "FILE")
+}
+
+// The form of these files.
 fn form_of_files(form: Form, files: &[&str]) -> Result<Form, Misuse>
     ensures { result ≡ spec.form_with form (map (λ f. f.now) files.now) }
 {
@@ -191,6 +208,16 @@ fn faults_form(given: &ArgMatches<'_>) -> Result<Form, Misuse>
         }
     }
     form_with(Form::Faults, given, "FILE")
+}
+
+// Whether options of a text are given to `hours`.
+fn has_text_options(given: &ArgMatches<'_>) -> bool
+    ensures { result ≡ spec.has_text_options (rows_of (found_of given.now)) }
+{
+    is_given(given, "strict")
+        || has_value(given, "day-names")
+        || has_value(given, "holidays")
+        || has_value(given, "years")
 }
 
 // The form of `hours`, by whether its text, its domain and options of the text are given.
@@ -278,12 +305,12 @@ pub(crate) fn form_of(name: &str, given: &ArgMatches<'_>) -> Result<Form, Misuse
         "hours" => hours_form(
             has_value(given, "TEXT"),
             has_value(given, "of"),
-            is_given(given, "strict") || has_value(given, "day-names"),
+            has_text_options(given),
         ),
         "same" => same_form(given),
         "diff" => Ok(Form::Diff),
         "ask" => Ok(Form::Ask),
-        "records" => form_with(Form::Records, given, "FILE"),
+        "records" => records_form(given),
         "conditions" => form_of_files(
             Form::Conditions,
             &[text(given, "TAGS"), text(given, "MEANS")],

@@ -15,6 +15,23 @@ pub(crate) fn value<'a>(given: &ArgMatches<'a>, name: &str) -> Option<&'a str>
     given.get_str(name)
 }
 
+/// The same, to be kept.
+pub(crate) fn kept_value(
+    alloc: Global,
+    given: &ArgMatches<'_>,
+    name: &str,
+) -> Result<Option<String>, AllocError>
+    ensures { IfOk result (λ kept. option_map string_bytes kept ≡ first_of name.now (rows_of (found_of given.now))) }
+{
+    match value(given, name) {
+        Some(text) => match String::from_str(alloc, text) {
+            Ok(text) => Ok(Some(text)),
+            Err(why) => Err(why),
+        },
+        None => Ok(None),
+    }
+}
+
 /// The word of this name.
 pub(crate) fn text<'a>(given: &ArgMatches<'a>, name: &str) -> &'a str
     ensures { result.now ≡ spec.text_of name.now (rows_of (found_of given.now)) }
@@ -108,6 +125,26 @@ fn has_input(files: &[&str]) -> bool
     match files {
         [] => false,
         [file, rest @ ..] => *file == "-" || has_input(rest),
+    }
+}
+
+/// Whether standard input is among the files that the words of this name give.
+pub(crate) fn reads_input(given: &ArgMatches<'_>, name: &str) -> bool
+    ensures { result ≡ spec.has_input (spec.texts_of name.now (rows_of (found_of given.now))) }
+{
+    match values(given, name) {
+        Some(files) => has_input(files),
+        None => false,
+    }
+}
+
+/// Whether a file that may be left out is standard input.
+pub(crate) fn is_input(file: Option<&str>) -> bool
+    ensures { result ≡ spec.is_input (option_map (λ f. f.now) file.entry) }
+{
+    match file {
+        Some(file) => file == "-",
+        None => false,
     }
 }
 

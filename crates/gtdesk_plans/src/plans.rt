@@ -67,7 +67,7 @@ impl OnePlan {
     ghost use Rattle.std.specs.Prelude.{◌≡◌};
     ghost use Rattle.gtdesk_plans.specs.Plans.{files_of, hours_text_of, texts_in};
 
-    /// The paths of the files that are to be read.
+    /// The paths of the files that are to be read. Of a text of opening hours that is the table of holidays, if one is given.
     pub fn files(&self) -> Files<'_>
         ensures value { texts_in result ≡ files_of self.now }
     {
@@ -78,6 +78,10 @@ impl OnePlan {
             OnePlan::SameRows(files) => Files::Several(files.as_slice()),
             OnePlan::Records(plan) => Files::Several(plan.files.as_slice()),
             OnePlan::Mend(file) => Files::One(file.as_str()),
+            OnePlan::DomainOf(plan) => match &plan.holidays {
+                Some(table) => Files::One(table.as_str()),
+                None => Files::None,
+            },
             _ => Files::None,
         }
     }

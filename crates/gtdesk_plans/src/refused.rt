@@ -74,6 +74,7 @@ fn word_of<'a>(form: Form, word: WordName, given: &ArgMatches<'a>) -> &'a str
         WordName::To => text(given, "TO"),
         WordName::Language => text(given, "lang"),
         WordName::Names => text(given, "day-names"),
+        WordName::Years => text(given, "years"),
         WordName::Rule => text(given, "allow"),
         WordName::Day => text(given, "at"),
         WordName::Zone => text(given, "zone"),

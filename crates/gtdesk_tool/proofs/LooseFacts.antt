@@ -1,5 +1,5 @@
 -- What the command `hours` did for a text, from what its parts did.
-use Rattle.std.proofs.Common.{◌≡◌, ◌⊎◌, inl, inr, refl, sym, ap, subst, ℕ, List, Bool, Option, Some, None}
+use Rattle.std.proofs.Common.{◌≡◌, ◌⊎◌, inl, inr, refl, sym, subst, ℕ, List, Bool, Option, Some, None}
 use Rattle.std.specs.Prelude.{Result, Ok, Err}
 use Rattle.std.specs.Io.KnownBytes.{Appends, Keeps}
 use Rattle.gtd_faults.specs.Run.{TookSome}
@@ -9,8 +9,8 @@ use Rattle.gtd_hours_loose.specs.declared.reader.LooseFault.TheVariants as loose
 use Rattle.gtd_hours_loose.specs.declared.reader.LooseReadFault.{LooseReadFault}
 use Rattle.gtd_hours_loose.specs.declared.reader.LooseReadFault.TheVariants as reading
 use Rattle.gtdesk_plans.specs.Arguments.{Text}
-use Rattle.gtdesk_tool.specs.LooseHours.{AreLines, IsRefusal, IsUnread, IsUntranslated, PutLines, RanHours, unread}
-use Rattle.gtdesk_tool.specs.Running.{PutText, failures_after_read}
+use Rattle.gtdesk_tool.specs.LooseHours.{IsUnread, IsUntranslated, PutLines, RanLines, unread}
+use Rattle.gtdesk_tool.specs.Running.{PutText}
 use Rattle.gtdesk_tool.specs.Telling.{IsUntold, Telling, ToldIfSome, telling}
 use Rattle.gtdesk_tool.specs.declared.ending.Ending.{Ending}
 use Rattle.gtdesk_tool.specs.declared.refusal.RunRefusal.{RunRefusal}
@@ -30,10 +30,6 @@ of_unread how text n r is = subst (λ (x : RunRefusal). TellsNone n x) (sym is.2
 of_untranslated : (hours : Hours) (n : ℕ) (r : RunRefusal) → IsUntranslated hours r → TellsNone n r
 of_untranslated hours n r (inl is) = subst (λ (x : RunRefusal). TellsNone n x) (sym is) (refl, refl)
 of_untranslated hours n r (inr is) = subst (λ (x : RunRefusal). TellsNone n x) (sym is.0) (refl, refl)
-
-pub of_refusal : (how : Manner) (text : Text) (n : ℕ) (r : RunRefusal) → IsRefusal how text r → TellsNone n r
-of_refusal how text n r (inl is) = of_unread how text n r is
-of_refusal how text n r (inr is) = of_untranslated is.0.hours n r is.2
 
 -- ---- the line of a domain, and warnings
 
@@ -65,36 +61,22 @@ module _ (domain warnings : List ℕ) (old new : Option (List ℕ)) (ended : Boo
       let part = part_of text r is put.refused in
       record { whole = tt; refused = (part.0, part.1, untold) }
 
-  pub hours_put : (how : Manner) (text : Text) (result : Result Ending RunRefusal) → AreLines how text domain warnings
-      → PutLines domain warnings old new ended errors result → RanHours how text old new ended errors result
-  hours_put how text (Ok e) are put = record {
+  pub lines_ran : (P : List ℕ → List ℕ → Type 0) (C : RunRefusal → Type 0) (result : Result Ending RunRefusal)
+      → P domain warnings → PutLines domain warnings old new ended errors result → RanLines P C old new ended errors result
+  lines_ran P C (Ok e) are put = record {
     whole = (put.whole.0, (domain, warnings, are, put.whole.1, put.whole.3), put.whole.2);
     refused = tt;
   }
-  hours_put how text (Err r) are put = record {
+  lines_ran P C (Err r) are put = record {
     whole = tt;
     refused = (put.refused.2, inl (put.refused.0, (domain, warnings, are, put.refused.1)));
   }
 
-keeps_same : (o : Option (List ℕ)) → Keeps o o
+pub keeps_same : (o : Option (List ℕ)) → Keeps o o
 keeps_same None = tt
 keeps_same (Some bytes) = refl
 
-pub hours_refused : (how : Manner) (text : Text) (old : Option (List ℕ)) (ended : Bool) (told : Option (List ℕ)) (n : ℕ)
-    (r : RunRefusal) → IsRefusal how text r → RanHours how text old old ended (telling told told n n) (Err r)
-hours_refused how text old ended told n r is =
+pub lines_stopped : (P : List ℕ → List ℕ → Type 0) (C : RunRefusal → Type 0) (old : Option (List ℕ)) (ended : Bool)
+    (told : Option (List ℕ)) (n : ℕ) (r : RunRefusal) → C r → RanLines P C old old ended (telling told told n n) (Err r)
+lines_stopped P C old ended told n r is =
     record { whole = tt; refused = ((keeps_same told, refl), inr (is, keeps_same old)) }
-
--- ---- nothing is read
-
-module _ (how : Manner) (text : Text) (old new : Option (List ℕ)) (ended : Bool) (errors : Telling) (n : ℕ) where
-  unread_part : (r : RunRefusal)
-      → ((r ≡ refusal.Write) × ((domain : List ℕ) × (warnings : List ℕ) × AreLines how text domain warnings
-      × TookSome old new domain)) ⊎ (IsRefusal how text r × Keeps old new) → n ≡ failures_after_read (Err r) n
-  unread_part r (inl part) = sym (ap (λ (x : RunRefusal). failures_after_read (Err x) n) part.0)
-  unread_part r (inr is) = (of_refusal how text n r is.0).0
-
-  pub unread_hours : (result : Result Ending RunRefusal) → RanHours how text old new ended errors result
-      → n ≡ failures_after_read result n
-  unread_hours (Ok e) put = refl
-  unread_hours (Err r) put = unread_part r put.refused.1

@@ -2,6 +2,8 @@ pub mod Ask
 pub mod Comparing
 pub mod Conditions
 pub mod Diff
+pub mod HolidayHours
+pub mod HolidayTables
 pub mod Hours
 pub mod Lines
 pub mod LooseHours
@@ -26,6 +28,7 @@ pub use Rattle.gtdesk_words.specs.Words
 pub use Rattle.gtd_changes.specs.Changes
 pub use Rattle.gtd_changes.specs.Run as ChangesRun
 pub use Rattle.gtd_difference.specs.Difference
+pub use Rattle.gtd_hours_file.specs.HoursFile
 pub use Rattle.gtd_hours_file.specs.Warnings
 pub use Rattle.gtd_hours_loose.specs.Reading as LooseReading
 pub use Rattle.gtd_hours_search.specs.Membership

@@ -1,8 +1,10 @@
 -- The lines for standard error that report a refusal.
-use Rattle.std.specs.Prelude.{◌++◌, ℕ, List, Some, None, codes, decimal}
+use Rattle.std.specs.Prelude.{◌++◌, ℕ, ℤ, List, [], Some, None, codes, decimal, if◌then◌else◌, int_lt}
 use Rattle.gtd_ask.specs.Texts.{question_fault_text}
 use Rattle.gtd_calendar.specs.declared.stamp.StampFault.{StampFault}
 use Rattle.gtd_calendar.specs.declared.stamp.StampFault.TheVariants as moment
+use Rattle.gtd_calendar.specs.Stamp.{date_text}
+use Rattle.gtd_core.specs.Limits.{first_calendar_day, last_calendar_day}
 use Rattle.gtd_core.specs.Names.{fault_name}
 use Rattle.gtd_core.specs.declared.horizon.HorizonFault.{HorizonFault}
 use Rattle.gtd_core.specs.declared.horizon.HorizonFault.TheVariants as horizon
@@ -44,10 +46,20 @@ date_reason moment.Shape = codes "not of the form YYYY-MM-DD"
 date_reason moment.NoSuchDate = codes "no such date"
 date_reason moment.Range = codes "not from 1901-01-01 to 2700-01-01"
 
+-- a day as a date; nothing, if the calendar has none
+abbrev pub day_text : ℤ → List ℕ
+day_text day =
+    if int_lt day first_calendar_day then []
+    else if int_lt last_calendar_day day then []
+    else printable (date_text day)
+
 -- why it has no domain: its first fault and the place, or that the domain is too large
 abbrev pub no_domain_text : NoDomain → List ℕ
 no_domain_text (none.Fault why) = kind_name why.kind ++ codes " at " ++ decimal why.place
 no_domain_text (none.Ambiguous place) = codes "Ambiguous at " ++ decimal place
+no_domain_text (none.Holidays place) = codes "Holidays at " ++ decimal place
+no_domain_text (none.Years place) = codes "Years at " ++ decimal place
+no_domain_text (none.Uncovered place day) = codes "Uncovered at " ++ (decimal place ++ (codes ": " ++ day_text day))
 no_domain_text none.TooMany = codes "TooMany at 0"
 
 -- the name of a word
@@ -64,9 +76,14 @@ word_name name.From = codes "FROM"
 word_name name.To = codes "TO"
 word_name name.Language = codes "LANGUAGE"
 word_name name.Names = codes "NAMES"
+word_name name.Years = codes "YEARS"
 word_name name.Rule = codes "RULE"
 word_name name.Day = codes "DAY"
 word_name name.Zone = codes "ZONE"
+
+-- why a word names no years
+abbrev pub year_reason : List ℕ
+year_reason = codes "neither F nor F-L, where F and L are years from 1802 to 2797 that make at most 98 years"
 
 -- why a word names no rules: the rules that there are
 abbrev pub rule_reason : List ℕ
@@ -90,6 +107,7 @@ reason_text (reason.Domain why) = fault_name why.kind ++ codes " at " ++ decimal
 reason_text (reason.Hours why) = no_domain_text why
 reason_text reason.Language = codes "not en, de or fr"
 reason_text reason.DayNames = codes "not de"
+reason_text reason.Years = year_reason
 reason_text reason.Rule = rule_reason
 reason_text reason.Day = codes "not from 1901-01-01 to 2699-12-31"
 reason_text reason.Zone = codes "not the name of a time zone"

@@ -10,7 +10,7 @@ use Rattle.gtd_hours.specs.Cost.{hours_cost}
 use Rattle.gtd_hours.specs.Opening.{IsOpen}
 use Rattle.gtd_hours.specs.Written.{hours_text}
 use Rattle.gtd_hours.specs.declared.hours.Hours.{Hours}
-use Rattle.gtd_hours_loose.specs.Manners.{IsReadFaultIn, IsReadingIn}
+use Rattle.gtd_hours_loose.specs.Manners.{IsReadFaultIn}
 use Rattle.gtd_hours_loose.specs.Reading.{IsLooseReading}
 use Rattle.gtd_hours_loose.specs.declared.manner.Manner.{Manner}
 use Rattle.gtd_hours_loose.specs.declared.manner.Manner.TheVariants as manner
@@ -20,9 +20,6 @@ use Rattle.gtd_hours_loose.specs.declared.reader.LooseReadFault.{LooseReadFault}
 use Rattle.gtd_hours_loose.specs.declared.reader.LooseReadFault.TheVariants as reading
 use Rattle.gtd_hours_loose_tokens.specs.declared.token.DayNames.{DayNames}
 use Rattle.gtd_hours_search.specs.Membership.{InDomain}
-use Rattle.gtd_hours_warnings.specs.Lines.{warning_lines}
-use Rattle.gtd_hours_warnings.specs.Warnings.{AreWarnings}
-use Rattle.gtd_hours_warnings.specs.declared.warnings.Warning.{Warning}
 use Rattle.gtd_text.specs.Canonical.{canonical}
 use Rattle.gtdesk_plans.specs.Arguments.{Text}
 use Rattle.gtdesk_tool.specs.Telling.{IsUntold, Telling, ToldIfSome}
@@ -38,23 +35,11 @@ abbrev pub manner_of : Bool → DayNames → Manner
 manner_of true names = manner.Strict
 manner_of false names = manner.Loose names
 
--- The lines are the warnings of a text from which these hours are read, one in a line.
-abbrev pub AreWarningLines : Text → LooseHours → List ℕ → Type 0
-AreWarningLines text read lines =
-    (found : List Warning) × AreWarnings text read found × (lines ≡ warning_lines (codes "gtdesk: TEXT: warning ") found)
-
 -- The line is the canonical text of some domain, with a line end, and this has exactly the seconds at which the hours are open.
 pub record Translates (hours : Hours) (line : List ℕ) : Type 0 where
   pub domain : Domain
   pub same : (s : ℤ) → InDomain domain s ↔ IsOpen hours s
   pub written : line ≡ canonical (domain_tree domain) ++ codes "\n"
-
--- The lines of the domain of the hours that the text stands for, and of its warnings.
-pub record AreLines (how : Manner) (text : Text) (domain warnings : List ℕ) : Type 0 where
-  pub read : LooseHours
-  pub reads : IsReadingIn how text read
-  pub translates : Translates read.hours domain
-  pub warns : AreWarningLines text read warnings
 
 -- The line of the hours that the text stands for, as they are strictly written.
 pub record IsMendedLine (names : DayNames) (text : Text) (line : List ℕ) : Type 0 where
@@ -77,11 +62,6 @@ abbrev pub IsUntranslated : Hours → RunRefusal → Type 0
 IsUntranslated hours r =
     (r ≡ refusal.Memory) ⊎ ((r ≡ refusal.NoDomain none.TooMany) × (most_basic_domains < hours_cost hours))
 
--- Why there are no lines for a text.
-abbrev pub IsRefusal : Manner → Text → RunRefusal → Type 0
-IsRefusal how text r =
-    IsUnread how text r ⊎ ((read : LooseHours) × IsReadingIn how text read × IsUntranslated read.hours r)
-
 -- The line of the domain was put whole, the output was ended, and the warnings were told, if there are any. If the output failed,
 -- it had taken a first part of the line, and nothing was told.
 pub record PutLines (domain warnings : List ℕ) (old new : Option (List ℕ)) (ended : Bool) (errors : Telling)
@@ -89,11 +69,10 @@ pub record PutLines (domain warnings : List ℕ) (old new : Option (List ℕ)) (
   pub whole : IfOk result (λ e. (e ≡ ending.Done) × Appends old new domain × IsTrue ended × ToldIfSome errors warnings)
   pub refused : IfErr result (λ r. (r ≡ refusal.Write) × TookSome old new domain × IsUntold errors)
 
--- What `hours` did for a text that is read in this manner: the same of its lines. Any other refusal has its cause; then nothing
--- was put or told.
-pub record RanHours (how : Manner) (text : Text) (old new : Option (List ℕ)) (ended : Bool) (errors : Telling)
-    (result : Result Ending RunRefusal) : Type 0 where
+-- The same of some lines of this kind. Any other refusal has its cause; then nothing was put or told.
+pub record RanLines (IsOfText : List ℕ → List ℕ → Type 0) (IsCause : RunRefusal → Type 0) (old new : Option (List ℕ))
+    (ended : Bool) (errors : Telling) (result : Result Ending RunRefusal) : Type 0 where
   pub whole : IfOk result (λ e. (e ≡ ending.Done) × ((domain : List ℕ) × (warnings : List ℕ)
-      × AreLines how text domain warnings × Appends old new domain × ToldIfSome errors warnings) × IsTrue ended)
+      × IsOfText domain warnings × Appends old new domain × ToldIfSome errors warnings) × IsTrue ended)
   pub refused : IfErr result (λ r. IsUntold errors × (((r ≡ refusal.Write) × ((domain : List ℕ) × (warnings : List ℕ)
-      × AreLines how text domain warnings × TookSome old new domain)) ⊎ (IsRefusal how text r × Keeps old new)))
+      × IsOfText domain warnings × TookSome old new domain)) ⊎ (IsCause r × Keeps old new)))

@@ -1,5 +1,5 @@
 -- What a plan prints, and how it ends.
-use Rattle.std.specs.Prelude.{◌≡◌, ◌≢◌, ◌↔◌, ◌⊎◌, ⊤, ℕ, ◌+◌, zero, suc, Bool, List, Option, Result, Ok}
+use Rattle.std.specs.Prelude.{◌≡◌, ◌≢◌, ◌↔◌, ◌⊎◌, ⊤, ℕ, ◌+◌, zero, suc, Bool, List, Option, None, Result, Ok}
 use Rattle.std.specs.Prelude.{Err, IsErrOf, IsTrue, Any, IfErr, IfOk, IfSome, OnOk, string_bytes, if◌then◌else◌}
 use Rattle.std.specs.Io.KnownBytes.{Appends, Keeps}
 use Rattle.gtd_core.specs.Parts.{domain_tree}
@@ -12,7 +12,8 @@ use Rattle.gtd_report.specs.Run.{UnacceptedFilesPutNothing}
 use Rattle.gtd_picture.specs.Domain.{HasPut, IsDomainSeen}
 use Rattle.gtd_picture.specs.Open.{IsOpenSeen}
 use Rattle.gtdesk_tool.specs.Hours.{IsHoursLine}
-use Rattle.gtdesk_tool.specs.LooseHours.{IsMendedLine, IsUnread, RanHours, manner_of}
+use Rattle.gtdesk_tool.specs.HolidayHours.{RanHoursPlan}
+use Rattle.gtdesk_tool.specs.LooseHours.{IsMendedLine, IsUnread, manner_of}
 use Rattle.gtdesk_tool.specs.Mended.{RanMended}
 use Rattle.gtdesk_tool.specs.Noted.{IsNoted, vehicle_note}
 use Rattle.gtdesk_tool.specs.Telling.{IsUntold, Telling, Told, ToldIfSome}
@@ -26,12 +27,13 @@ use Rattle.gtd_report.specs.declared.fault.RunFault.TheVariants as run
 use Rattle.gtd_faults.specs.declared.list_fault.ListFault.{ListFault}
 use Rattle.gtd_faults.specs.declared.list_fault.ListFault.TheVariants as list
 use Rattle.gtd_faults.specs.Run.{HasListed, TookSome}
+use Rattle.gtd_hours_file.specs.HoursFile.{HowRead}
 use Rattle.gtd_hours_file.specs.Run.{HasTranslated}
 use Rattle.gtd_hours_file.specs.Warnings.{IsWarned, lines_of}
 use Rattle.gtd_hours_file.specs.declared.translated.Translated.{Translated}
 use Rattle.gtd_hours_file.specs.declared.untranslated.Untranslated.{Untranslated}
 use Rattle.gtd_hours_file.specs.declared.untranslated.Untranslated.TheVariants as hours
-use Rattle.gtd_hours_loose.specs.declared.manner.Manner.{Manner}
+use Rattle.gtd_hours_known.specs.declared.known.Known.{Known}
 use Rattle.gtd_hours_loose.specs.declared.manner.Manner.TheVariants as manner
 use Rattle.gtd_now.specs.Now.{IsNowOf}
 use Rattle.gtd_now.specs.Query.{Query}
@@ -188,9 +190,8 @@ records_outcome (Err hours.Endless) = Err (refusal.Records records.Endless)
 records_outcome (Err (hours.WriteFault written)) = Err refusal.Write
 records_outcome (Err (hours.NoMemory written)) = Err refusal.Memory
 
--- The run of `records` of a file whose texts are read in this manner had an answer, and all that the run promises for this answer
--- holds.
-pub record RanRecords (how : Manner) (path : List ℕ) (file old new : Option (List ℕ)) (silent ended : Bool) (errors : Telling)
+-- The run of `records` of a file whose texts are read so had an answer, and all that the run promises for this answer holds.
+pub record RanRecords (how : HowRead) (path : List ℕ) (file old new : Option (List ℕ)) (silent ended : Bool) (errors : Telling)
     (result : Result Ending RunRefusal) : Type 0 where
   pub answer : Result Translated Untranslated
   pub outcome : result ≡ records_outcome (lines_of answer)
@@ -208,7 +209,7 @@ IsQuiet (plan.Mend file) = ⊥
 IsQuiet (plan.DomainOf p) = ⊥
 IsQuiet other = ⊤
 
--- The plan reads no file.
+-- The plan reads no file: of a text of hours, no table of holidays is given.
 abbrev pub ReadsNone : OnePlan → Type 0
 ReadsNone (plan.Now p) = ⊥
 ReadsNone (plan.Faults p) = ⊥
@@ -216,12 +217,13 @@ ReadsNone (plan.Picture p) = ⊥
 ReadsNone (plan.SameRows files) = ⊥
 ReadsNone (plan.Records p) = ⊥
 ReadsNone (plan.Mend file) = ⊥
+ReadsNone (plan.DomainOf p) = p.holidays ≡ None
 ReadsNone other = ⊤
 
--- What a plan did to the output for the file of this path, by its answer.
-abbrev pub HasRunPlan : OnePlan → List ℕ → Option (List ℕ) → Option (List ℕ) → Option (List ℕ) → Bool → Bool → Telling
+-- What a plan did to the output for the file of this path, by its answer; of a file of hours, where this is known of holidays.
+abbrev pub HasRunPlan : OnePlan → Known → List ℕ → Option (List ℕ) → Option (List ℕ) → Option (List ℕ) → Bool → Bool → Telling
     → Result Ending RunRefusal → Type 0
-HasRunPlan (plan.Now p) path file old new silent ended errors result =
+HasRunPlan (plan.Now p) known path file old new silent ended errors result =
     RanNow (record {
       vehicle = p.view.vehicle;
       second = p.moment.second.0;
@@ -230,30 +232,30 @@ HasRunPlan (plan.Now p) path file old new silent ended errors result =
       form = form_of p.view;
       why = p.view.why;
     }) path file old new silent ended errors result
-HasRunPlan (plan.Faults p) path file old new silent ended errors result =
+HasRunPlan (plan.Faults p) known path file old new silent ended errors result =
     RanFaults path p.asked file old new silent ended result
-HasRunPlan (plan.Picture p) path file old new silent ended errors result =
+HasRunPlan (plan.Picture p) known path file old new silent ended errors result =
     RanPicture p.subject (string_bytes p.title) file old new silent ended result
-HasRunPlan (plan.DomainPicture p) path file old new silent ended errors result =
+HasRunPlan (plan.DomainPicture p) known path file old new silent ended errors result =
     RanDomainPicture p.domain (string_bytes p.title) p.year old new ended result
-HasRunPlan (plan.Words p) path file old new silent ended errors result =
+HasRunPlan (plan.Words p) known path file old new silent ended errors result =
     PutText (λ text. text ≡ words_in p.language (domain_tree p.domain)) (λ r. r ≡ refusal.Memory) old new ended result
-HasRunPlan (plan.HoursOf domain) path file old new silent ended errors result =
+HasRunPlan (plan.HoursOf domain) known path file old new silent ended errors result =
     PutText (IsHoursLine domain) IsHoursRefusal old new ended result
-HasRunPlan (plan.DomainOf p) path file old new silent ended errors result =
-    RanHours (manner_of p.strict p.names) (string_bytes p.text) old new ended errors result
-HasRunPlan (plan.Same p) path file old new silent ended errors result =
+HasRunPlan (plan.DomainOf p) known path file old new silent ended errors result =
+    RanHoursPlan p path file old new silent ended errors result
+HasRunPlan (plan.Same p) known path file old new silent ended errors result =
     HasCompared p.first p.second p.from.second.0 old new ended result
-HasRunPlan (plan.SameRows files) path file old new silent ended errors result =
+HasRunPlan (plan.SameRows files) known path file old new silent ended errors result =
     RanRepeats path file old new silent ended result
-HasRunPlan (plan.Records p) path file old new silent ended errors result =
-    RanRecords (manner_of p.strict p.names) path file old new silent ended errors result
-HasRunPlan (plan.Mend name) path file old new silent ended errors result =
+HasRunPlan (plan.Records p) known path file old new silent ended errors result =
+    RanRecords (record { manner = manner_of p.strict p.names; known = known }) path file old new silent ended errors result
+HasRunPlan (plan.Mend name) known path file old new silent ended errors result =
     RanMended path file old new silent ended errors result
-HasRunPlan (plan.MendHours p) path file old new silent ended errors result =
+HasRunPlan (plan.MendHours p) known path file old new silent ended errors result =
     PutText (IsMendedLine p.names (string_bytes p.text)) (IsUnread (manner.Loose p.names) (string_bytes p.text)) old new ended
     result
-HasRunPlan (plan.Show text) path file old new silent ended errors result =
+HasRunPlan (plan.Show text) known path file old new silent ended errors result =
     PutText (λ t. t ≡ string_bytes text) (λ r. ⊥) old new ended result
 
 -- one more failure of the input exactly if the refusal is that it failed

@@ -1,5 +1,5 @@
 -- What is shown below the line of a refusal.
-use Rattle.std.specs.Prelude.{◌≡◌, ℕ, List, Some, None, get_or, option_map}
+use Rattle.std.specs.Prelude.{◌≡◌, ℕ, List, Some, None, codes, get_or, option_map}
 use Rattle.gtd_faults.specs.Snippet.{IsOfField}
 use Rattle.gtd_faults.specs.Expected as of_records
 use Rattle.gtd_faults.specs.declared.snippet.Snippet.TheVariants as snippet
@@ -26,10 +26,23 @@ abbrev pub IsAt : List ℕ → ℕ → List ℕ → RefusalSnippet → Type 0
 IsAt text place accepted shown =
     IsOfField (Some text) place shown.snippet × (option_map (λ w. w.now) shown.accepted ≡ Some accepted)
 
+-- what is to be given where a text has holidays
+abbrev pub accepted_table : List ℕ
+accepted_table = codes "a table of such holidays: give one with --holidays FILE"
+
+abbrev pub accepted_years : List ℕ
+accepted_years = codes "the years in which holidays are known: give them with --years F-L"
+
+abbrev pub accepted_cover : List ℕ
+accepted_cover = codes "a table with all holidays of these years, and rows that say so: PH-covered or SH-covered"
+
 -- what is shown of a text of opening hours without a domain
 abbrev pub IsOfHours : List ℕ → NoDomain → RefusalSnippet → Type 0
 IsOfHours text (none.Fault why) shown = IsAt text why.place (of_hours.accepted_hours why.kind) shown
 IsOfHours text (none.Ambiguous place) shown = IsAt text place accepted_once shown
+IsOfHours text (none.Holidays place) shown = IsAt text place accepted_table shown
+IsOfHours text (none.Years place) shown = IsAt text place accepted_years shown
+IsOfHours text (none.Uncovered place day) shown = IsAt text place accepted_cover shown
 IsOfHours text none.TooMany shown = IsAt text 0 of_hours.accepted_size shown
 
 -- what is shown of a word: of a time domain and of opening hours the text, of any other nothing

@@ -1,6 +1,7 @@
 //! The command `records`: the record file of a file of opening hours.
 
 ghost use Rattle.std.specs.Prelude.{◌≡◌, ◌<◌};
+ghost use Rattle.gtd_hours_file.specs.HoursFile.{how_read};
 ghost use Rattle.gtd_hours_file.specs.Warnings.{lines_of};
 ghost use Rattle.gtdesk_tool.specs.Running.{IsToldOf, RanRecords, failures_after_read, failures_after_write, records_outcome};
 ghost use Rattle.gtdesk_tool.specs.Telling.{Told, ToldIfSome, telling};
@@ -8,8 +9,7 @@ ghost use Rattle.gtdesk_tool.specs.Telling.{Told, ToldIfSome, telling};
 use crate::ending::Ending;
 use crate::refusal::RunRefusal;
 use gtd_devices::{Input, Output};
-use gtd_hours_file::{Translated, Untranslated, run_hours_records};
-use gtd_hours_loose::Manner;
+use gtd_hours_file::{HoursReading, Translated, Untranslated, run_hours_records};
 use gtd_records::RecordFault;
 use gtd_report::{Progress, put_line};
 use std::alloc::Global;
@@ -20,7 +20,7 @@ pub(crate) struct RecordsTurn<'a> {
     /// The path.
     pub(crate) path: &'a str,
     /// How its texts are read.
-    pub(crate) manner: Manner,
+    pub(crate) reading: HoursReading<'a>,
 }
 
 // The answer of `records`, from that of its run.
@@ -75,8 +75,8 @@ fn tell_answer<E: Output>(errors: &mut E, answer: &Result<Translated, Untranslat
     }
 }
 
-/// Prints the record file of the file of hours that the input brings, whose texts are read in this manner, and warnings of its
-/// rows on the output for errors; or lists all its faults there.
+/// Prints the record file of the file of hours that the input brings, whose texts are read so, and warnings of its rows on the
+/// output for errors; or lists all its faults there.
 pub(crate) fn print_records<I: Input, O: Output, E: Output>(
     alloc: Global,
     input: &mut I,
@@ -87,15 +87,15 @@ pub(crate) fn print_records<I: Input, O: Output, E: Output>(
     requires readable { I.failure_count input.old < u64.MAX }
     requires writable { O.failure_count output.old < u64.MAX }
     requires tellable { E.failure_count errors.old < u64.MAX }
-    ensures ran { RanRecords turn.entry.manner turn.entry.path.now (I.to_come input.old) (O.taken output.old) (O.taken output.new)
-        (I.may_fall_silent input.old) (O.is_ended output.new)
+    ensures ran { RanRecords (how_read turn.entry.reading) turn.entry.path.now (I.to_come input.old) (O.taken output.old)
+        (O.taken output.new) (I.may_fall_silent input.old) (O.is_ended output.new)
         (telling (E.taken errors.old) (E.taken errors.new) (E.failure_count errors.old) (E.failure_count errors.new)) result }
     ensures read_faults { I.failure_count input.new
         ≡ failures_after_read result (I.failure_count input.old) }
     ensures write_faults { O.failure_count output.new
         ≡ failures_after_write result (O.failure_count output.old) }
 {
-    let answer = run_hours_records(alloc, input, output, turn.path, turn.manner);
+    let answer = run_hours_records(alloc, input, output, turn.path, turn.reading);
     tell_answer(errors, &answer);
     records_outcome(&answer)
 }

@@ -1,8 +1,8 @@
 //! The commands of `gtdesk`.
 //!
 //! [`plan`] reads the words after the program's name, and [`perform`] carries out what they ask for, for one file after the
-//! other; or [`perform_diff`] if they ask for what two files say differently, [`perform_conditions`] for the records of tags of
-//! ways, and [`perform_ask`] for answers to questions.
+//! other, of files of opening hours with the table that [`read_table`] reads; or [`perform_diff`] if they ask for what two files
+//! say differently, [`perform_conditions`] for the records of tags of ways, and [`perform_ask`] for answers to questions.
 #![tactic(auto)]
 
 mod ask;
@@ -10,6 +10,8 @@ mod conditions;
 mod diff;
 mod domain_hours;
 mod ending;
+mod holiday_hours;
+mod holiday_table;
 mod hours_records;
 mod line;
 mod loose_hours;
@@ -27,6 +29,7 @@ pub use ask::perform_ask;
 pub use conditions::perform_conditions;
 pub use diff::perform_diff;
 pub use ending::{Ending, joined};
+pub use gtd_hours_known::Known;
 pub use gtd_zones::zone_path;
 pub use gtdesk_plans::{
     ConditionsPlan, DiffPlan, DomainPicturePlan, FaultsPlan, Files, HoursPlan, LineRefusal,
@@ -34,6 +37,7 @@ pub use gtdesk_plans::{
     SamePlan, ZonePlan, plan,
 };
 pub use gtdesk_words::{Moment, NoDomain, Reason, WordFault, WordName, WordsRefusal};
+pub use holiday_table::read_table;
 pub use line::RefusalLines;
 pub use performer::{Turn, perform};
 pub use refusal::{Refusal, RunRefusal, refused_file, refused_table};

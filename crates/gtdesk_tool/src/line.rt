@@ -2,11 +2,11 @@
 
 ghost use Rattle.std.specs.Prelude.{◌≡◌, Some};
 ghost use Rattle.gtdesk_tool.specs.Lines as spec;
-ghost use Rattle.gtdesk_tool.specs.Lines.{no_domain_text, reason_text, refusal_lines, run_text, word_text, words_text};
+ghost use Rattle.gtdesk_tool.specs.Lines.{day_text, no_domain_text, reason_text, refusal_lines, run_text, word_text, words_text};
 
 use crate::refusal::{Refusal, RunRefusal};
 use gtd_ask::QuestionText;
-use gtd_calendar::StampFault;
+use gtd_calendar::{FIRST_CALENDAR_DAY, LAST_CALENDAR_DAY, StampFault, write_date};
 use gtd_core::HorizonFault;
 use gtd_faults::{FaultText, Printable};
 use gtd_hours_file::RefusalSnippet;
@@ -20,6 +20,10 @@ const NO_HOURS: &str = "DOMAIN: no opening hours are found that have its seconds
 // Why there is no picture: nobody could see its stretches.
 const CROWDED: &str =
     "Crowded: the seconds of the year make more than 20,000 stretches, too many for a picture";
+
+// Why a word names no years.
+const NO_YEARS: &str =
+    "neither F nor F-L, where F and L are years from 1802 to 2797 that make at most 98 years";
 
 // Why a word names no rules: the rules that there are.
 const NO_RULES: &str =
@@ -63,6 +67,25 @@ fn date_reason(fault: StampFault) -> &'static str
     }
 }
 
+/// A day as a date; nothing, if the calendar has none.
+#[derive(Drop)]
+struct DayText(i64);
+
+impl Display for DayText {
+    ghost output = { λ shown. Some (day_text shown.0) };
+
+    fn fmt<W: fmt::Write>(&self, f: &mut Formatter<W>) -> fmt::Result {
+        if self.0 < FIRST_CALENDAR_DAY {
+            return Ok(());
+        }
+        if LAST_CALENDAR_DAY < self.0 {
+            return Ok(());
+        }
+        let date = write_date(self.0);
+        write!(f, "{}", Printable(&date))
+    }
+}
+
 /// Why a text of opening hours has no domain.
 #[derive(Drop)]
 struct TextLine(NoDomain);
@@ -78,6 +101,12 @@ impl Display for TextLine {
                 write!(f, "{kind} at {place}")
             }
             NoDomain::Ambiguous { place } => write!(f, "Ambiguous at {place}"),
+            NoDomain::Holidays { place } => write!(f, "Holidays at {place}"),
+            NoDomain::Years { place } => write!(f, "Years at {place}"),
+            NoDomain::Uncovered { place, day } => {
+                let day = DayText(day);
+                write!(f, "Uncovered at {place}: {day}")
+            }
             NoDomain::TooMany => write!(f, "TooMany at 0"),
         }
     }
@@ -100,6 +129,7 @@ fn word_name(word: WordName) -> &'static str
         WordName::To => "TO",
         WordName::Language => "LANGUAGE",
         WordName::Names => "NAMES",
+        WordName::Years => "YEARS",
         WordName::Rule => "RULE",
         WordName::Day => "DAY",
         WordName::Zone => "ZONE",
@@ -130,6 +160,7 @@ impl Display for ReasonText {
             Reason::Hours(why) => write!(f, "{}", TextLine(why)),
             Reason::Language => write!(f, "not en, de or fr"),
             Reason::DayNames => write!(f, "not de"),
+            Reason::Years => write!(f, "{NO_YEARS}"),
             Reason::Rule => write!(f, "{NO_RULES}"),
             Reason::Day => write!(f, "not from 1901-01-01 to 2699-12-31"),
             Reason::Zone => write!(f, "not the name of a time zone"),

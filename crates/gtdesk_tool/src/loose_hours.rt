@@ -1,4 +1,4 @@
-//! The command `hours` of a text, which may be written loosely, and `mend hours`, which prints its strict form.
+//! The line of the domain of hours, and `mend hours`, which prints the strict form of a text.
 
 ghost use Rattle.std.specs.Prelude.{◌≡◌, ◌++◌, ◌<◌, IfErr, IfOk, codes, string_bytes};
 ghost use Rattle.gtd_core.specs.Parts.{domain_tree};
@@ -6,8 +6,7 @@ ghost use Rattle.gtd_hours_loose.specs.Manners.{IsReadingIn};
 ghost use Rattle.gtd_text.specs.Canonical.{canonical};
 ghost use Rattle.gtdesk_words.specs.HoursWords.{IsTranslation};
 ghost use Rattle.gtdesk_tool.specs.LooseHours as spec;
-ghost use Rattle.gtdesk_tool.specs.LooseHours.{AreLines, AreWarningLines, IsMendedLine, IsRefusal, IsUnread, IsUntranslated};
-ghost use Rattle.gtdesk_tool.specs.LooseHours.{PutLines, RanHours, Translates, manner_of};
+ghost use Rattle.gtdesk_tool.specs.LooseHours.{IsMendedLine, IsUnread, IsUntranslated, PutLines, Translates, manner_of};
 ghost use Rattle.gtdesk_tool.specs.Running.{PutText, failures_after_write};
 ghost use Rattle.gtdesk_tool.specs.Telling.{telling};
 
@@ -22,20 +21,18 @@ use gtd_hours::Hours;
 use gtd_hours_domain::{TranslationFault, domain_of};
 use gtd_hours_loose::{LooseFault, LooseHours, LooseReadFault, Manner, read_hours_in};
 use gtd_hours_loose_tokens::DayNames;
-use gtd_hours_warnings::{push_lines, warnings_of};
 use gtd_text::print_domain;
-use gtdesk_plans::HoursPlan;
 use gtdesk_words::NoDomain;
 use std::alloc::{AllocError, Global};
 
-// What stands before a warning.
-const BEFORE: &[u8] = b"gtdesk: TEXT: warning ";
+/// What stands before a warning.
+pub(crate) const BEFORE: &[u8] = b"gtdesk: TEXT: warning ";
 
 /// The line of the domain of a text, and those of the text's warnings.
 #[derive(Drop)]
-struct Lines {
-    domain: String,
-    warnings: Vec<u8>,
+pub(crate) struct Lines {
+    pub(crate) domain: String,
+    pub(crate) warnings: Vec<u8>,
 }
 
 /// How a text is read: as it is written, if that is asked for, and else also where it is written loosely.
@@ -75,16 +72,6 @@ fn read(alloc: Global, text: &str, manner: Manner) -> Result<LooseHours, RunRefu
     }
 }
 
-// The lines of the warnings of a text from which these hours are read.
-fn warning_lines(alloc: Global, text: &str, read: &LooseHours) -> Result<Vec<u8>, AllocError>
-    ensures { IfOk result (λ lines. AreWarningLines text.now read.now lines.items) }
-{
-    let warnings = warnings_of(alloc, text.as_bytes(), read)?;
-    let mut lines = Vec::new(alloc);
-    push_lines(&mut lines, BEFORE, warnings.as_slice())?;
-    Ok(lines)
-}
-
 // The domain with exactly the seconds at which the hours are open.
 fn domain_with(alloc: Global, hours: &Hours) -> Result<Domain, RunRefusal>
     ensures same { IfOk result (IsTranslation hours.now) }
@@ -106,8 +93,8 @@ fn domain_line_of(alloc: Global, domain: &Domain) -> Result<String, AllocError>
     Ok(line)
 }
 
-// The line of the domain with exactly the seconds at which the hours are open.
-fn domain_line(alloc: Global, hours: &Hours) -> Result<String, RunRefusal>
+/// The line of the domain with exactly the seconds at which the hours are open.
+pub(crate) fn domain_line(alloc: Global, hours: &Hours) -> Result<String, RunRefusal>
     ensures line { IfOk result (λ line. Translates hours.now (string_bytes line)) }
     ensures refused { IfErr result (IsUntranslated hours.now) }
 {
@@ -121,27 +108,8 @@ fn domain_line(alloc: Global, hours: &Hours) -> Result<String, RunRefusal>
     }
 }
 
-// The lines of the text.
-fn lines_of(alloc: Global, text: &str, manner: Manner) -> Result<Lines, RunRefusal>
-    ensures lines { IfOk result (λ lines. AreLines manner text.now (string_bytes lines.domain) lines.warnings.items) }
-    ensures refused { IfErr result (IsRefusal manner text.now) }
-{
-    let read = match read(alloc, text, manner) {
-        Ok(read) => read,
-        Err(refusal) => return Err(refusal),
-    };
-    let domain = match domain_line(alloc, &read.hours) {
-        Ok(domain) => domain,
-        Err(refusal) => return Err(refusal),
-    };
-    match warning_lines(alloc, text, &read) {
-        Ok(warnings) => Ok(Lines { domain, warnings }),
-        Err(_) => Err(RunRefusal::Memory),
-    }
-}
-
-// Puts the line of a domain, ends the output, and then tells the warnings, if there are any.
-fn put_lines<O: Output, E: Output>(
+/// Puts the line of a domain, ends the output, and then tells the warnings, if there are any.
+pub(crate) fn put_lines<O: Output, E: Output>(
     output: &mut O,
     errors: &mut E,
     lines: &Lines,
@@ -159,32 +127,6 @@ fn put_lines<O: Output, E: Output>(
             tell_if_some(errors, lines.warnings.as_slice());
             Ok(ending)
         }
-        Err(refusal) => Err(refusal),
-    }
-}
-
-/// Puts the domain with exactly the seconds at which the hours of the text are open, and ends the output. Then it tells the
-/// warnings of the text: where it is written loosely, if it may be, and which of its rules hide hours.
-pub(crate) fn print_hours_domain<O: Output, E: Output>(
-    alloc: Global,
-    output: &mut O,
-    errors: &mut E,
-    plan: &HoursPlan,
-) -> Result<Ending, RunRefusal>
-    requires writable { O.failure_count output.old < u64.MAX }
-    requires tellable { E.failure_count errors.old < u64.MAX }
-    ensures ran { RanHours (manner_of plan.now.strict plan.now.names) (string_bytes plan.now.text) (O.taken output.old)
-        (O.taken output.new) (O.is_ended output.new)
-        (telling (E.taken errors.old) (E.taken errors.new) (E.failure_count errors.old) (E.failure_count errors.new)) result }
-    ensures write_faults { O.failure_count output.new
-        ≡ failures_after_write result (O.failure_count output.old) }
-{
-    match lines_of(
-        alloc,
-        plan.text.as_str(),
-        manner_of(plan.strict, plan.names),
-    ) {
-        Ok(lines) => put_lines(output, errors, &lines),
         Err(refusal) => Err(refusal),
     }
 }

@@ -10,8 +10,9 @@ ghost use Rattle.gtdesk_tool.specs.Telling.{telling};
 
 use crate::domain_hours::print_hours_of;
 use crate::ending::Ending;
+use crate::holiday_hours::{HoursTurn, print_hours};
 use crate::hours_records::{RecordsTurn, print_records};
-use crate::loose_hours::{manner_of, print_hours_domain, print_mended_hours};
+use crate::loose_hours::{manner_of, print_mended_hours};
 use crate::mended::print_mended;
 use crate::now::{NowTurn, form_of, print_now};
 use crate::picture::{print_domain, print_picture};
@@ -20,6 +21,8 @@ use crate::repeats::print_repeats;
 use crate::same::print_comparison;
 use gtd_devices::{Input, Output};
 use gtd_faults::{ListFault, run_faults};
+use gtd_hours_file::HoursReading;
+use gtd_hours_known::Known;
 use gtd_now::Asked;
 use gtd_records::RecordFault;
 use gtd_report::{Progress, RunFault, finish, put_line};
@@ -150,12 +153,14 @@ pub struct Turn<'a> {
     pub plan: &'a OnePlan,
     /// The path; any, if the plan reads no file.
     pub path: &'a str,
+    /// What is known of holidays, if the file is one of opening hours.
+    pub known: &'a Known,
 }
 
 /// Carries a plan out for one of its files, whose bytes the input brings: puts what it asks for, and ends the output. If the plan
 /// reads none, nothing is pulled. Four plans put something to the output for errors: `now` a note, if no row of the file is for
 /// the vehicle type; `records` warnings of a file of hours, or all its faults; `mend` what it changed; and `hours` warnings of
-/// its text. If that output fails, a first part of this stands, and the answer is the same.
+/// its text, or all faults of its table of holidays. If that output fails, a first part of this stands, and the answer is the same.
 ///
 /// `Records` is the file's first fault, or why the input failed; `NoHours` is answered if no opening hours are found for a
 /// domain, and `NoDomain` if a text is no opening hours or the domain of these is too large. `Write` is answered exactly if the
@@ -172,8 +177,8 @@ pub fn perform<I: Input, O: Output, E: Output>(
     requires writable { O.failure_count output.old < u64.MAX }
     requires tellable { E.failure_count errors.old < u64.MAX }
     // What the output took, by the answer; of some plans, what the output for errors took, too.
-    ensures ran { HasRunPlan turn.entry.plan.now turn.entry.path.now (I.to_come input.old) (O.taken output.old)
-        (O.taken output.new) (I.may_fall_silent input.old) (O.is_ended output.new)
+    ensures ran { HasRunPlan turn.entry.plan.now turn.entry.known.now turn.entry.path.now (I.to_come input.old)
+        (O.taken output.old) (O.taken output.new) (I.may_fall_silent input.old) (O.is_ended output.new)
         (telling (E.taken errors.old) (E.taken errors.new) (E.failure_count errors.old) (E.failure_count errors.new)) result }
     // Each failure of the input or of the output is told, and nothing else is told as one.
     ensures read_faults { I.failure_count input.new
@@ -214,14 +219,19 @@ pub fn perform<I: Input, O: Output, E: Output>(
         ),
         OnePlan::Words(plan) => print_words(alloc, output, plan),
         OnePlan::HoursOf(domain) => print_hours_of(alloc, output, domain),
-        OnePlan::DomainOf(plan) => print_hours_domain(alloc, output, errors, plan),
+        OnePlan::DomainOf(plan) => {
+            print_hours(alloc, input, output, errors, HoursTurn { path, plan })
+        }
         OnePlan::Same(plan) => {
             print_comparison(alloc, output, &plan.first, &plan.second, plan.from)
         }
         OnePlan::SameRows(_) => print_repeats(alloc, input, output, path),
         OnePlan::Records(plan) => {
-            let manner = manner_of(plan.strict, plan.names);
-            print_records(alloc, input, output, errors, RecordsTurn { path, manner })
+            let reading = HoursReading {
+                manner: manner_of(plan.strict, plan.names),
+                known: turn.known,
+            };
+            print_records(alloc, input, output, errors, RecordsTurn { path, reading })
         }
         OnePlan::Mend(_) => print_mended(alloc, input, output, errors, path),
         OnePlan::MendHours(plan) => {

@@ -1,6 +1,6 @@
 //! What is shown below the line of a refusal.
 
-ghost use Rattle.gtdesk_tool.specs.Shown.{IsNothing, IsOfHours, IsOfRun, IsOfWord, IsShownBelow};
+ghost use Rattle.gtdesk_tool.specs.Shown.{IsAt, IsNothing, IsOfHours, IsOfRun, IsOfWord, IsShownBelow};
 
 use crate::refusal::{Refusal, RunRefusal};
 use gtd_faults::Snippet;
@@ -8,6 +8,16 @@ use gtd_hours_file::{
     RefusalSnippet, ambiguous_snippet, domain_snippet, hours_snippet, too_many_snippet,
 };
 use gtdesk_words::{NoDomain, Reason, WordsRefusal};
+
+// What is to be given where a text has holidays: a table of them.
+const TABLE: &str = "a table of such holidays: give one with --holidays FILE";
+
+// The years.
+const YEARS: &str = "the years in which holidays are known: give them with --years F-L";
+
+// A table that covers the years.
+const COVER: &str =
+    "a table with all holidays of these years, and rows that say so: PH-covered or SH-covered";
 
 // Nothing, of whatever text.
 fn nothing(_text: &str) -> RefusalSnippet<'_>
@@ -19,6 +29,16 @@ fn nothing(_text: &str) -> RefusalSnippet<'_>
     }
 }
 
+// The text around a place, with what is to be given.
+fn expecting<'a>(text: &'a str, place: usize, accepted: &'static str) -> RefusalSnippet<'a>
+    ensures { IsAt text.now place accepted.now result }
+{
+    RefusalSnippet {
+        snippet: ambiguous_snippet(text, place).snippet,
+        accepted: Some(accepted),
+    }
+}
+
 // What is shown of a text of opening hours without a domain.
 fn of_hours(text: &str, why: NoDomain) -> RefusalSnippet<'_>
     ensures { IsOfHours text.now why result }
@@ -26,6 +46,9 @@ fn of_hours(text: &str, why: NoDomain) -> RefusalSnippet<'_>
     match why {
         NoDomain::Fault(fault) => hours_snippet(text, fault),
         NoDomain::Ambiguous { place } => ambiguous_snippet(text, place),
+        NoDomain::Holidays { place } => expecting(text, place, TABLE),
+        NoDomain::Years { place } => expecting(text, place, YEARS),
+        NoDomain::Uncovered { place, .. } => expecting(text, place, COVER),
         NoDomain::TooMany => too_many_snippet(text),
     }
 }

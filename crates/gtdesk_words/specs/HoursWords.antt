@@ -29,4 +29,7 @@ IsHoursDomain text domain = (hours : Hours) × StandsFor text hours × IsTransla
 abbrev pub IsNoDomainOf : Text → NoDomain → Type 0
 IsNoDomainOf text (none.Fault why) = IsFirstFault text why
 IsNoDomainOf text (none.Ambiguous place) = ⊥
+IsNoDomainOf text (none.Holidays place) = ⊥
+IsNoDomainOf text (none.Years place) = ⊥
+IsNoDomainOf text (none.Uncovered place day) = ⊥
 IsNoDomainOf text none.TooMany = (hours : Hours) × StandsFor text hours × (most_basic_domains < hours_cost hours)

@@ -1,5 +1,6 @@
 pub mod Text
 pub mod Words
+pub mod YearsWords
 pub mod HoursWords
 pub mod Readings
 pub mod Statuses
@@ -12,6 +13,7 @@ pub use Rattle.gtd_calendar.specs.Read
 pub use Rattle.gtd_moments.specs.Moments
 pub use Rattle.gtd_hours_domain.specs.Membership
 pub use Rattle.gtd_hours.specs.Cost
+pub use Rattle.gtd_hours_holidays.specs.KnownYears
 pub use Rattle.gtd_hours.specs.Opening
 pub use Rattle.gtd_hours_grammar.specs.Faults
 pub use Rattle.gtd_hours_text.specs.Standing

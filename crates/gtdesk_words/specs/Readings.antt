@@ -7,6 +7,7 @@ use Rattle.gtd_core.specs.declared.fault.TextFault.{TextFault}
 use Rattle.gtd_core.specs.declared.horizon.Horizon.{Horizon}
 use Rattle.gtd_core.specs.declared.horizon.HorizonFault.{HorizonFault}
 use Rattle.gtd_core.specs.declared.second.Sec.{Sec}
+use Rattle.gtd_hours_holidays.specs.declared.known_years.KnownYears.{KnownYears}
 use Rattle.gtd_moments.specs.Moments.{moment_in}
 use Rattle.gtd_records.specs.Columns.{direction_of, number_of}
 use Rattle.gtd_text.specs.Reading.{HasNoFault, IsFault}
@@ -16,6 +17,7 @@ use Rattle.gtdesk_words.specs.HoursWords.{HasDomain, IsNoDomainOf}
 use Rattle.gtd_mistakes.specs.declared.rule.Rule.{Rule}
 use Rattle.gtdesk_words.specs.Words.{AreDays, AreRules, HasNoRule, IsDayWord, IsNoDay, IsNoVehicle, IsNoYear, IsVehicleWord}
 use Rattle.gtdesk_words.specs.Words.{IsYearWord, day_names_in, language_in, numbers_of, parts_of}
+use Rattle.gtdesk_words.specs.YearsWords.{AreNoYears, IsYearsWord}
 use Rattle.gtdesk_words.specs.declared.refusal.NoDomain.{NoDomain}
 use Rattle.gtdesk_words.specs.declared.refusal.Reason.{Reason}
 use Rattle.gtdesk_words.specs.declared.refusal.Reason.TheVariants as reason
@@ -26,7 +28,7 @@ use Rattle.gtdesk_words.specs.declared.refusal.WordsRefusal.TheVariants as refus
 
 -- What a word has to be: the number of an element, or such numbers with commas between them; a direction; a vehicle type; a year;
 -- a moment; a date; a date that makes a horizon with the date before it; a time domain; opening hours that have one; a language;
--- a language of weekdays; rules; a day; the name of a time zone.
+-- a language of weekdays; years in which holidays are known; rules; a day; the name of a time zone.
 pub data Reading : Type 0 where
   element : (text : Text) → Reading
   elements : (text : Text) → Reading
@@ -40,6 +42,7 @@ pub data Reading : Type 0 where
   hours : (text : Text) → Reading
   language : (text : Text) → Reading
   day_names : (text : Text) → Reading
+  years : (text : Text) → Reading
   rules : (text : Text) → Reading
   day : (text : Text) → Reading
   zone : (text : Text) → Reading
@@ -58,6 +61,7 @@ Stands (Reading.domain text) = HasNoFault text
 Stands (Reading.hours text) = HasDomain text
 Stands (Reading.language text) = IsSome (language_in text)
 Stands (Reading.day_names text) = IsSome (day_names_in text)
+Stands (Reading.years text) = (years : KnownYears) × IsYearsWord text years
 Stands (Reading.rules text) = (rules : List Rule) × AreRules (parts_of text) rules
 Stands (Reading.day text) = (days : Horizon) × IsDayWord text days
 Stands (Reading.zone text) = is_zone_name text ≡ true
@@ -78,6 +82,7 @@ IsReason (Reading.domain text) why = (fault : TextFault) × (why ≡ reason.Doma
 IsReason (Reading.hours text) why = (none : NoDomain) × (why ≡ reason.Hours none) × IsNoDomainOf text none
 IsReason (Reading.language text) why = (why ≡ reason.Language) × (language_in text ≡ None)
 IsReason (Reading.day_names text) why = (why ≡ reason.DayNames) × (day_names_in text ≡ None)
+IsReason (Reading.years text) why = (why ≡ reason.Years) × AreNoYears text
 IsReason (Reading.rules text) why = (why ≡ reason.Rule) × HasNoRule (parts_of text)
 IsReason (Reading.zone text) why = (why ≡ reason.Zone) × (is_zone_name text ≡ false)
 IsReason (Reading.day text) why =

@@ -14,5 +14,5 @@ pub use moment::Moment;
 pub use refusal::{NoDomain, Reason, WordFault, WordName, WordsRefusal};
 pub use words::{
     day_names_of, days_after, days_of, direction_of, domain_of, element_of, elements_of, from_of,
-    hours_of, language_of, moment_of, rules_of, vehicle_of, year_of, zone_of,
+    hours_of, language_of, moment_of, rules_of, vehicle_of, year_of, years_of, zone_of,
 };

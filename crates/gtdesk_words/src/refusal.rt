@@ -34,6 +34,8 @@ pub enum WordName {
     Language,
     /// `NAMES`
     Names,
+    /// `YEARS`
+    Years,
     /// `RULE`
     Rule,
     /// `DAY`
@@ -51,6 +53,23 @@ pub enum NoDomain {
     Ambiguous {
         /// The number of bytes before the place.
         place: usize,
+    },
+    /// The text has holidays, and no table says which days these are. No text that is read without options is refused for this.
+    Holidays {
+        /// The number of bytes before its first holiday.
+        place: usize,
+    },
+    /// The text has holidays, and no years are given in which they are known. The same holds.
+    Years {
+        /// The number of bytes before its first holiday.
+        place: usize,
+    },
+    /// The table does not say all holidays of a kind in the years. The same holds.
+    Uncovered {
+        /// The number of bytes before the holiday.
+        place: usize,
+        /// The first day of the years that the table does not cover, from 1970-01-01 on.
+        day: i64,
     },
     /// The domain would have more than 128 basic domains.
     TooMany,
@@ -81,6 +100,8 @@ pub enum Reason {
     Language,
     /// It is not `de`, the language of names of weekdays that can be given.
     DayNames,
+    /// It is not a year from 1802 to 2797, or two of them with `-` between them, which make at most 98 years.
+    Years,
     /// It is not the name of a rule, or not such names with commas between them.
     Rule,
     /// It is a date, but none from 1901-01-01 to 2699-12-31.

@@ -3,6 +3,7 @@
 ghost use Rattle.std.specs.Prelude.{◌≡◌, ◌≢◌, ◌⊎◌, [], ◌∷◌, IfOk, IfSome, MatchOption, MatchResult, None, Ok, Some};
 ghost use Rattle.std.specs.Prelude.{option_map, true};
 ghost use Rattle.gtd_calendar.specs.Read.{date_in};
+ghost use Rattle.gtd_hours_holidays.specs.KnownYears.{AreKnown};
 ghost use Rattle.gtd_moments.specs.Moments.{moment_in};
 ghost use Rattle.gtd_records.specs.Columns.{direction_of, number_of};
 ghost use Rattle.gtd_zones.specs.Zones as zones;
@@ -12,6 +13,7 @@ ghost use Rattle.gtd_mistakes.specs.RuleNames.{name_of};
 ghost use Rattle.gtdesk_words.specs.Words.{AreDays, AreRules, AreRulesIn, HasNoRule, IsDayIn, IsDayWord, IsFromWord, IsNoRule};
 ghost use Rattle.gtdesk_words.specs.Words.{IsNoVehicle, IsNoYear, IsReadDomain, IsVehicleWord, IsYearWord, elements_in};
 ghost use Rattle.gtdesk_words.specs.Words.{day_names_for, day_names_in, language_for, language_in, numbers_of, parts_of};
+ghost use Rattle.gtdesk_words.specs.YearsWords.{AreNoYears, AreYearsIn, IsYearsWord, both_years, years_in};
 
 use crate::hours::hours_domain;
 use crate::moment::Moment;
@@ -19,6 +21,7 @@ use crate::refusal::{Reason, WordFault, WordName, WordsRefusal};
 use gtd_calendar::read_date;
 use gtd_core::limits::FIRST_MOMENT;
 use gtd_core::{Domain, Fault, Horizon, Sec, TextFault};
+use gtd_hours_holidays::KnownYears;
 use gtd_hours_loose_tokens::DayNames;
 use gtd_mistakes::{Rule, rule_of_name};
 use gtd_moments::read_moment;
@@ -293,6 +296,84 @@ pub fn day_names_of(text: Option<&str>) -> Result<DayNames, WordsRefusal>
     match text {
         Some(text) => day_names_named(text),
         None => Ok(DayNames::Unsaid),
+    }
+}
+
+// The first and the last year that two texts are, if they are numbers.
+fn both_years(first: &[u8], last: &[u8]) -> Option<(u64, u64)>
+    ensures { result ≡ both_years first.now last.now }
+{
+    match read_number(first) {
+        Some(first) => match read_number(last) {
+            Some(last) => Some((first, last)),
+            None => None,
+        },
+        None => None,
+    }
+}
+
+// The first and the last year that a text names, of four digits each, if it names any. One year is both.
+fn years_in(text: &[u8]) -> Option<(u64, u64)>
+    ensures { result ≡ years_in text.now }
+{
+    match text.len() {
+        4 => both_years(text, text),
+        9 => {
+            if text[4] == b'-' {
+                both_years(&text[..4], &text[5..])
+            } else {
+                None
+            }
+        }
+        _ => None,
+    }
+}
+
+// The years from one to another, if holidays may be known in them.
+fn known_years(first: u64, last: u64) -> Option<KnownYears>
+    ensures { MatchOption result (AreKnown first last → ⊥) (λ years. (years.first ≡ first) × (years.last ≡ last)) }
+{
+    if first > 2797 || last > 2797 {
+        return None;
+    }
+    KnownYears::new(first as u16, last as u16)
+}
+
+// The years that a word stands for, if holidays may be known in them.
+fn years_word(text: &[u8]) -> Option<KnownYears>
+    ensures { MatchOption result (AreNoYears text.now) (IsYearsWord text.now) }
+{
+    match years_in(text) {
+        Some((first, last)) => known_years(first, last),
+        None => None,
+    }
+}
+
+// The same, or the refusal of the text.
+fn years_named(text: &str) -> Result<KnownYears, WordsRefusal>
+    ensures { MatchResult result (IsYearsWord text.now)
+        (AreStopped (word_as WordName.Years (Reading.years text.now) ∷ [])) }
+{
+    match years_word(text.as_bytes()) {
+        Some(years) => Ok(years),
+        None => Err(WordsRefusal::Word(WordFault {
+            word: WordName::Years,
+            why: Reason::Years,
+        })),
+    }
+}
+
+/// The years that a word stands for, in which holidays are known. It may be left out: then there are none.
+pub fn years_of(text: Option<&str>) -> Result<Option<KnownYears>, WordsRefusal>
+    ensures { MatchResult result (AreYearsIn (option_map (λ s. s.now) text.entry))
+        (AreStopped (if_given (option_map (λ s. s.now) text.entry) (λ t. word_as WordName.Years (Reading.years t)))) }
+{
+    match text {
+        Some(text) => match years_named(text) {
+            Ok(years) => Ok(Some(years)),
+            Err(refusal) => Err(refusal),
+        },
+        None => Ok(None),
     }
 }
 

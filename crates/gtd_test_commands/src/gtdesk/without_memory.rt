@@ -4,7 +4,7 @@ use crate::devices::two_rows;
 use crate::growth::switch;
 use crate::gtdesk::plans::planned;
 use gtd_devices::MemoryOut;
-use gtdesk_tool::{Ending, Files, OnePlan, Turn, perform};
+use gtdesk_tool::{Ending, Files, Known, OnePlan, Turn, perform};
 
 // The first file of a plan, and how many there are.
 fn first_of(plan: &OnePlan) -> (&str, usize) {
@@ -38,9 +38,14 @@ fn texts(rt: HostRuntime) {
     let mut input = two_rows(&rt, alloc);
     let mut output = MemoryOut::new(alloc, 1_000, 5, None).expect(&rt, "memory");
     let mut errors = MemoryOut::new(alloc, 100, 100, None).expect(&rt, "memory");
+    let known = Known {
+        holidays: None,
+        years: None,
+    };
     let turn = Turn {
         plan: &plan,
         path: "r.csv",
+        known: &known,
     };
     switch(alloc);
     let done = perform(alloc, turn, &mut input, &mut output, &mut errors);

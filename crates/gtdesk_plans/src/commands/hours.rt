@@ -8,11 +8,12 @@ ghost use Rattle.gtdesk_plans.specs.Commands.Hours.{Asks, AsksOf, app, words, wo
 ghost use Rattle.gtdesk_words.specs.Readings.{AreStopped};
 
 use crate::arguments::{Argument, DAY_NAMES, with_arguments};
-use crate::given::{is_given, text, value};
+use crate::given::{is_given, kept_value, text, value};
 use crate::plans::{OnePlan, Plan};
 use clap::{ArgMatches, Command};
+use gtd_hours_holidays::KnownYears;
 use gtd_hours_loose_tokens::DayNames;
-use gtdesk_words::{WordName, WordsRefusal, day_names_of, domain_of};
+use gtdesk_words::{WordName, WordsRefusal, day_names_of, domain_of, years_of};
 use std::alloc::{AllocError, Global};
 
 /// A text of opening hours.
@@ -24,6 +25,10 @@ pub struct HoursPlan {
     pub strict: bool,
     /// What `Di`, `Do` and `So` are where it is written loosely.
     pub names: DayNames,
+    /// The path of the table of holidays, or `-` for standard input, if one is given.
+    pub holidays: Option<String>,
+    /// The years in which holidays are known, if they are given.
+    pub years: Option<KnownYears>,
 }
 
 // What help says at the end.
@@ -38,12 +43,22 @@ const ABOUT: &str =
     or opening hours that are open at exactly the seconds of a time domain";
 
 // Its words and options.
-const ARGUMENTS: [Argument; 4] = [
+const ARGUMENTS: [Argument; 6] = [
     Argument::Flag {
         name: "strict",
         help: "Refuse a text that is written loosely",
     },
     DAY_NAMES,
+    Argument::Option {
+        name: "holidays",
+        value: "FILE",
+        help: "The table of holidays, for PH and SH; or - for standard input",
+    },
+    Argument::Option {
+        name: "years",
+        value: "YEARS",
+        help: "The years in which holidays are known: F-L or F",
+    },
     Argument::FreeWord {
         name: "TEXT",
         help: "The opening hours",
@@ -74,12 +89,22 @@ pub(crate) fn plan(alloc: Global, given: &ArgMatches<'_>) -> Result<Plan, WordsR
         Ok(names) => names,
         Err(refusal) => return Err(refusal),
     };
+    let years = match years_of(value(given, "years")) {
+        Ok(years) => years,
+        Err(refusal) => return Err(refusal),
+    };
     let strict = is_given(given, "strict");
+    let holidays = match kept_value(alloc, given, "holidays") {
+        Ok(path) => path,
+        Err(_) => return Err(WordsRefusal::Memory),
+    };
     match String::from_str(alloc, text(given, "TEXT")) {
         Ok(text) => Ok(Plan::One(OnePlan::DomainOf(HoursPlan {
             text,
             strict,
             names,
+            holidays,
+            years,
         }))),
         Err(_) => Err(WordsRefusal::Memory),
     }

@@ -8,11 +8,12 @@ ghost use Rattle.gtdesk_plans.specs.Commands.Records.{Asks, app, words};
 ghost use Rattle.gtdesk_words.specs.Readings.{AreStopped};
 
 use crate::arguments::{Argument, DAY_NAMES, command_of};
-use crate::given::{is_given, texts, value};
+use crate::given::{is_given, kept_value, texts, value};
 use crate::plans::{OnePlan, Plan};
 use clap::{ArgMatches, Command};
+use gtd_hours_holidays::KnownYears;
 use gtd_hours_loose_tokens::DayNames;
-use gtdesk_words::{WordsRefusal, day_names_of};
+use gtdesk_words::{WordsRefusal, day_names_of, years_of};
 use std::alloc::{AllocError, Global};
 
 /// Files of opening hours.
@@ -24,6 +25,10 @@ pub struct RecordsPlan {
     pub strict: bool,
     /// What `Di`, `Do` and `So` are where a text is written loosely.
     pub names: DayNames,
+    /// The path of the table of holidays, or `-` for standard input, if one is given.
+    pub holidays: Option<String>,
+    /// The years in which holidays are known, if they are given.
+    pub years: Option<KnownYears>,
 }
 
 // What help says of it.
@@ -31,12 +36,22 @@ const ABOUT: &str =
     "Print the record file of each file of opening hours, with a time domain for the hours of each row";
 
 // Its words and options.
-const ARGUMENTS: [Argument; 3] = [
+const ARGUMENTS: [Argument; 5] = [
     Argument::Flag {
         name: "strict",
         help: "Take texts that are written loosely as faults",
     },
     DAY_NAMES,
+    Argument::Option {
+        name: "holidays",
+        value: "FILE",
+        help: "The table of holidays, for PH and SH; or - for standard input",
+    },
+    Argument::Option {
+        name: "years",
+        value: "YEARS",
+        help: "The years in which holidays are known: F-L or F",
+    },
     Argument::Words {
         name: "FILE",
         help: "The files, with the columns element, direction, vehicles and hours; one may be - for standard input",
@@ -58,12 +73,22 @@ pub(crate) fn plan(alloc: Global, given: &ArgMatches<'_>) -> Result<Plan, WordsR
         Ok(names) => names,
         Err(refusal) => return Err(refusal),
     };
+    let years = match years_of(value(given, "years")) {
+        Ok(years) => years,
+        Err(refusal) => return Err(refusal),
+    };
     let strict = is_given(given, "strict");
+    let holidays = match kept_value(alloc, given, "holidays") {
+        Ok(path) => path,
+        Err(_) => return Err(WordsRefusal::Memory),
+    };
     match texts(alloc, given, "FILE") {
         Ok(files) => Ok(Plan::One(OnePlan::Records(RecordsPlan {
             files,
             strict,
             names,
+            holidays,
+            years,
         }))),
         Err(_) => Err(WordsRefusal::Memory),
     }

@@ -114,6 +114,9 @@ fits_or_not text one other a b few many =
 no_reason : (text : Text) → HasDomain text → (why : NoDomain) → IsNoDomainOf text why → ⊥
 no_reason text has (none.Fault bad) is = hours_or_fault text has.1.p bad has.1.is is
 no_reason text has (none.Ambiguous place) is = is
+no_reason text has (none.Holidays place) is = is
+no_reason text has (none.Years place) is = is
+no_reason text has (none.Uncovered place day) is = is
 no_reason text has none.TooMany is = fits_or_not text has.0 is.0 has.1 is.1 has.2 is.2
 
 -- a text has one reason
@@ -123,8 +126,17 @@ one_reason text (none.Fault a) none.TooMany h k = absurd (hours_or_fault text k.
 one_reason text none.TooMany (none.Fault b) h k = absurd (hours_or_fault text h.1.p b h.1.is k)
 one_reason text none.TooMany none.TooMany h k = refl
 one_reason text (none.Ambiguous place) b h k = absurd h
+one_reason text (none.Holidays place) b h k = absurd h
+one_reason text (none.Years place) b h k = absurd h
+one_reason text (none.Uncovered place day) b h k = absurd h
 one_reason text (none.Fault a) (none.Ambiguous place) h k = absurd k
+one_reason text (none.Fault a) (none.Holidays place) h k = absurd k
+one_reason text (none.Fault a) (none.Years place) h k = absurd k
+one_reason text (none.Fault a) (none.Uncovered place day) h k = absurd k
 one_reason text none.TooMany (none.Ambiguous place) h k = absurd k
+one_reason text none.TooMany (none.Holidays place) h k = absurd k
+one_reason text none.TooMany (none.Years place) h k = absurd k
+one_reason text none.TooMany (none.Uncovered place day) h k = absurd k
 
 -- ---- rules and days
 
@@ -160,6 +172,7 @@ stands_or_not : (reading : Reading) (why : Reason) → Stands reading → IsReas
 stands_or_not (Reading.element text) why s h = some_read (number_of text) s h.1
 stands_or_not (Reading.language text) why s h = some_read (language_in text) s h.1
 stands_or_not (Reading.day_names text) why s h = some_read (day_names_in text) s h.1
+stands_or_not (Reading.years text) why s h = h.1 s.0.first s.0.last s.1 s.0.in_range
 stands_or_not (Reading.elements text) why s h = some_read (numbers_of (parts_of text)) s h.1
 stands_or_not (Reading.direction text) why s h = some_read (direction_of text) s h.1
 stands_or_not (Reading.vehicle text) why s h = h.1 s.0 s.1.0 s.1.1
@@ -177,6 +190,7 @@ one_why : (reading : Reading) (a b : Reason) → IsReason reading a → IsReason
 one_why (Reading.element text) a b h k = h.0 ∙ sym k.0
 one_why (Reading.language text) a b h k = h.0 ∙ sym k.0
 one_why (Reading.day_names text) a b h k = h.0 ∙ sym k.0
+one_why (Reading.years text) a b h k = h.0 ∙ sym k.0
 one_why (Reading.elements text) a b h k = h.0 ∙ sym k.0
 one_why (Reading.direction text) a b h k = h.0 ∙ sym k.0
 one_why (Reading.vehicle text) a b h k = h.0 ∙ sym k.0

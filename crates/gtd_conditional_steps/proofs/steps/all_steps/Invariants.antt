@@ -1,9 +1,15 @@
--- The steps of the rows so far.
+-- The steps of the rows before this one; the modes of tags come one after another.
+use Rattle.std.proofs.Common.{◌≤◌, ◌-◌}
 use Rattle.gtd_conditional_steps.specs.Sayings.{said_before}
 use Rattle.gtd_conditional_steps.specs.Steps.{AreStepsOf}
 use Rattle.gtd_conditional_steps.proofs.steps.all_steps.Given as goal
 
 abbrev pub invariant-loop-mode : goal.invariant-loop-mode
-invariant-loop-mode l =
-    AreStepsOf l.asked.means.now.rows.items l.asked.direction
-    (said_before l.mode l.subject l.asked.means.now.rows.items l.asked.direction l.tags) l.steps.items
+invariant-loop-mode l = record {
+  low : l.mode ≤ l.end;
+  steps : AreStepsOf l.asked.means.now.rows.items l.asked.direction
+      (said_before l.mode l.subject l.asked.means.now.rows.items l.asked.direction l.tags) l.steps.items;
+}
+
+abbrev pub decreases-loop-mode : goal.decreases-loop-mode
+decreases-loop-mode l = l.end - l.mode

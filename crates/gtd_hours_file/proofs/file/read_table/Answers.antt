@@ -1,10 +1,11 @@
 -- Each way in which the rows end gives what the table says: a missing header alone, all rows, or too many with a fault.
+use Rattle.gtd_hours_file.specs.HoursFile.{how_read}
 use Rattle.gtd_hours_file.proofs.ReadFacts.{no_header, table_read, table_too_long}
 use Rattle.gtd_hours_file.proofs.file.read_table.Goals as goal
 
 pub returns-in-NoHeader : goal.returns-in-NoHeader
 returns-in-NoHeader c =
-    no_header c.args.manner c.alone.result _ _ _ (rw c.in-NoHeader.is at c.in_ok-take_rows.ensures.taken)
+    no_header (how_read c.args.by) c.alone.result _ _ _ (rw c.in-NoHeader.is at c.in_ok-take_rows.ensures.taken)
     c.alone.ensures.sound c.alone.ensures.faults
 
 pub returns-in-All : goal.returns-in-All

@@ -3,9 +3,7 @@ use Rattle.gtd_hours_file.proofs.OneAnswer as proof
 use Rattle.gtd_hours_file.proofs.laws.one_answer.Goals as goal
 
 pub returns-clause-answer : goal.returns-clause-answer
-returns-clause-answer c =
-    let one = c.one_reading.ensures in
-    λ how. proof.one_answer how (one.open how) (one.cost how) (one.fault how) (one.apart how)
+returns-clause-answer c = proof.one_answer
 
 pub returns-clause-restrictions : goal.returns-clause-restrictions
 returns-clause-restrictions c = proof.same_translation

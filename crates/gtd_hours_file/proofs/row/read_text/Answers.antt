@@ -1,8 +1,10 @@
--- Hours that take more than 128 basic domains are at fault, as their count, stopped at `u32::MAX`, already shows.
-use Rattle.std.proofs.Common.{◌<◌, arith, refl}
+-- Hours that take more than 128 basic domains are at fault, as their count, stopped at `u32::MAX`, already shows; of others the
+-- text, what is read of it and its first holiday are kept.
+use Rattle.std.proofs.Common.{◌<◌, ◌≤◌, arith, refl}
 use Rattle.std.proofs.lemmas.Bool.Decides.{nat_tests}
 use Rattle.gtd_hours.specs.Cost.{hours_cost}
-use Rattle.gtd_hours_file.proofs.RowFacts.{above}
+use Rattle.gtd_hours_file.specs.HoursFile.{how_read}
+use Rattle.gtd_hours_file.proofs.RowFacts.{above, below, is_kept}
 use Rattle.gtd_hours_file.proofs.row.read_text.Goals as goal
 
 pub returns-then-cost_of-from-clause-stop : goal.returns-then-cost_of-from-clause-stop
@@ -14,3 +16,11 @@ returns-then-cost_of-from-clause-stop c =
       c.in-Ok.ensures.hours,
       above (hours_cost c.in-Ok.read.hours) c.cost_of.result c.cost_of.ensures.value more,
     )
+
+pub returns-in-Ok-kept-clause-hours : goal.returns-in-Ok-kept-clause-hours
+returns-in-Ok-kept-clause-hours c =
+    let limit = c.from.ensures in
+    let few : c.cost_of.result ≤ 128 = grind (arith, nat_tests) in
+    let k = c.in-Ok-kept.ensures in
+    is_kept (how_read c.args.reading) c.args.text.now c.in-Ok.read c.in-Ok-kept.given c.in-Ok.ensures.hours k.text k.hours k.form
+    k.holiday (below (hours_cost c.in-Ok.read.hours) c.cost_of.result c.cost_of.ensures.value few)

@@ -2,7 +2,7 @@
 use Rattle.gtd_hours_loose.specs.declared.manner.Manner.TheVariants as manner
 use Rattle.gtdesk_tool.proofs.RunningFacts.{of_hours, of_memory, of_none, unread_picture, unread_text}
 use Rattle.gtdesk_tool.proofs.ComparingFacts.{unread_comparison}
-use Rattle.gtdesk_tool.proofs.LooseFacts.{of_unread, unread_hours}
+use Rattle.gtdesk_tool.proofs.LooseFacts.{of_unread}
 use Rattle.gtdesk_tool.proofs.performer.perform.Goals as goal
 
 pub returns-in-DomainPicture-clause-read_faults : goal.returns-in-DomainPicture-clause-read_faults
@@ -13,9 +13,6 @@ returns-in-Words-clause-read_faults g c = unread_text _ _ _ _ _ _ (of_memory _) 
 
 pub returns-in-HoursOf-clause-read_faults : goal.returns-in-HoursOf-clause-read_faults
 returns-in-HoursOf-clause-read_faults g c = unread_text _ _ _ _ _ _ (of_hours _) _ c.print_hours_of.ensures.put
-
-pub returns-in-DomainOf-clause-read_faults : goal.returns-in-DomainOf-clause-read_faults
-returns-in-DomainOf-clause-read_faults g c = unread_hours _ _ _ _ _ _ _ _ c.print_hours_domain.ensures.ran
 
 pub returns-in-MendHours-clause-read_faults : goal.returns-in-MendHours-clause-read_faults
 returns-in-MendHours-clause-read_faults g c =

@@ -1,5 +1,5 @@
 -- At each turn the rules so far are those that the parts passed name; one part that names none ends it.
-use Rattle.std.proofs.Common.{rules, tests, ◌∙◌, ◌==◌, refl, length, arith}
+use Rattle.std.proofs.Common.{rules, tests, ◌==◌, refl, length, arith}
 use Rattle.std.proofs.lemmas.List.{length_push}
 use Rattle.std.proofs.lemmas.Iterator.Consumers.{YieldsList-turn, YieldsList-end}
 use Rattle.std.proofs.lemmas.Iterator.Splits.{YieldsList-from_slice_split}

@@ -1,0 +1,44 @@
+-- Each rule has a place for each of its holidays: both lists grow together.
+use Rattle.std.proofs.Common.{◌≡◌, ℕ, List, [], ◌∷◌, ◌++◌, Bool, true, false, length, map, refl, sym, subst, arith}
+use Rattle.std.proofs.Common.{length-append}
+use Rattle.std.specs.Prelude.{if◌then◌else◌}
+use Rattle.gtd_hours_days.specs.declared.listed.Listed.{Listed}
+use Rattle.gtd_hours_holiday_rules.specs.Reading.{HasParts}
+use Rattle.gtd_hours_holiday_rules.specs.Rules.{HavePlaces, Said, begins_rule, begun}
+use Rattle.gtd_hours_holiday_rules.specs.Rules.{link_of, or_also, rules_from, said_by, with_item}
+use Rattle.gtd_hours_holiday_rules.specs.declared.items.Item.{Item}
+use Rattle.gtd_hours_holiday_rules.specs.declared.parts.Part.{Part}
+use Rattle.gtd_hours_holiday_rules.specs.declared.role.Role.{Role}
+use Rattle.gtd_hours_holiday_rules.specs.declared.role.Role.TheVariants as role
+use Rattle.gtd_hours_holiday_rules.specs.declared.text.HolidayText.{HolidayText}
+
+both_more : (places : List ℕ) (holidays : List Listed) (place : ℕ) (h : Listed) → length places ≡ length holidays
+    → length (places ++ place ∷ []) ≡ length (holidays ++ h ∷ [])
+both_more places holidays place h e =
+    omega (arith, e, length-append places (place ∷ []), length-append holidays (h ∷ []))
+
+item_placed : (text : List ℕ) (rule : Said) (r : Role) (item : Item) → length rule.places ≡ length rule.holidays
+    → length (with_item text rule r item).places ≡ length (with_item text rule r item).holidays
+item_placed text rule role.Kept item e = e
+item_placed text rule (role.Leading h) item e = both_more rule.places rule.holidays item.from h e
+item_placed text rule (role.Listed h) item e = both_more rule.places rule.holidays item.from h e
+item_placed text rule role.Gone item e = e
+item_placed text rule role.Unwritten item e = e
+item_placed text rule role.Doubtful item e = e
+item_placed text rule role.Misfit item e = e
+item_placed text rule (role.Begins link) item e = e
+
+either : (b : Bool) (xs ys : List Said) → HavePlaces xs → HavePlaces ys → HavePlaces (if b then xs else ys)
+either true xs ys p q = p
+either false xs ys p q = q
+
+rules_placed : (text : List ℕ) (rule : Said) (parts : List Part) → length rule.places ≡ length rule.holidays
+    → HavePlaces (rules_from text rule parts)
+rules_placed text rule [] e = (e, tt)
+rules_placed text rule (p ∷ parts) e =
+    either (begins_rule (link_of p.role)) _ _ (e, rules_placed text (begun (or_also (link_of p.role))) parts refl)
+    (rules_placed text (with_item text rule p.role p.item) parts (item_placed text rule p.role p.item e))
+
+pub places : (text : List ℕ) (parts : List Part) (read : HolidayText) → HasParts text parts read
+    → HavePlaces (map said_by read.rules.items)
+places text parts read has = subst HavePlaces (sym has.rules) (rules_placed text _ parts refl)

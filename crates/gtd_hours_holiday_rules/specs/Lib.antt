@@ -1,0 +1,12 @@
+pub mod Offsets
+pub mod Items
+pub mod Coming
+pub mod Behind
+pub mod Roles
+pub mod Told
+pub mod Parts
+pub mod Checked
+pub mod Rules
+pub mod Reading
+pub mod facts
+pub use Rattle.gtd_hours_tokens.specs.Lexing

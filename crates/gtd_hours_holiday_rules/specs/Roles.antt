@@ -1,0 +1,90 @@
+-- What becomes of an item, by what stands behind and before it.
+use Rattle.std.specs.Prelude.{Bool, true, false, List, if◌then◌else◌}
+use Rattle.gtd_hours.specs.declared.hours.Link.TheVariants as link
+use Rattle.gtd_hours_days.specs.declared.listed.Listed.{Listed}
+use Rattle.gtd_hours_tokens.specs.declared.token.TokenKind.{TokenKind}
+use Rattle.gtd_hours_tokens.specs.declared.token.TokenKind.TheVariants as kind
+use Rattle.gtd_hours_holiday_rules.specs.declared.items.Item.{Item}
+use Rattle.gtd_hours_holiday_rules.specs.declared.items.What.{What}
+use Rattle.gtd_hours_holiday_rules.specs.declared.items.What.TheVariants as what
+use Rattle.gtd_hours_holiday_rules.specs.declared.behind.Behind.{Behind}
+use Rattle.gtd_hours_holiday_rules.specs.declared.behind.Behind.TheVariants as behind
+use Rattle.gtd_hours_holiday_rules.specs.declared.behind.Last.{Last}
+use Rattle.gtd_hours_holiday_rules.specs.declared.behind.Last.TheVariants as last
+use Rattle.gtd_hours_holiday_rules.specs.declared.behind.Position.{Position}
+use Rattle.gtd_hours_holiday_rules.specs.declared.role.Role.{Role}
+use Rattle.gtd_hours_holiday_rules.specs.declared.role.Role.TheVariants as role
+use Rattle.gtd_hours_holiday_rules.specs.Coming.{begins, begins_month_days, is_holiday, is_number, is_time, is_weekday, is_year}
+use Rattle.gtd_hours_holiday_rules.specs.Coming.{leads}
+
+-- a holiday where a list of days begins
+abbrev pub first_role : Listed → List Item → Role
+first_role h later = if leads false later then role.Leading h else role.Listed h
+
+-- A holiday in a list with weekdays, where holidays lead it or not. A comma joins it, unless holidays lead.
+abbrev pub joined_role : Bool → Last → Listed → Role
+joined_role false last.Comma h = role.Listed h
+joined_role led last.Unfinished h = role.Misfit
+joined_role led l h = role.Doubtful
+
+abbrev pub holiday_role : Behind → Last → Listed → List Item → Role
+holiday_role behind.Front l h later = first_role h later
+holiday_role behind.Years l h later = first_role h later
+holiday_role behind.MonthDays l h later = first_role h later
+holiday_role behind.Weeks l h later = first_role h later
+holiday_role behind.Colon l h later = first_role h later
+holiday_role (behind.Led from) l h later = role.Leading h
+holiday_role (behind.Weekdays led) l h later = joined_role led l h
+holiday_role b l h later = role.Listed h
+
+-- a comma goes on with a list, or a rule begins
+abbrev pub kept_if : Bool → Role
+kept_if b = if b then role.Kept else role.Begins link.Also
+
+-- a comma behind a list of days, with weekdays or without: in the rule's own text it stands between weekdays alone
+abbrev pub days_comma : Bool → List Item → Role
+days_comma weekdays later =
+    if begins is_weekday later then if weekdays then role.Kept else role.Unwritten
+    else if begins is_holiday later then role.Unwritten
+    else role.Begins link.Also
+
+abbrev pub comma_role : Behind → List Item → Role
+comma_role (behind.Led from) later = role.Gone
+comma_role behind.Holidays later = days_comma false later
+comma_role (behind.Weekdays l) later = days_comma true later
+comma_role behind.Mixed later = days_comma true later
+comma_role behind.Years later = kept_if (begins is_year later)
+comma_role behind.MonthDays later = kept_if (begins_month_days later)
+comma_role behind.Weeks later = kept_if (begins is_number later)
+comma_role behind.Times later = kept_if (begins is_time later)
+comma_role (behind.Places l) later = role.Kept
+comma_role b later = role.Begins link.Also
+
+-- a weekday directly behind a holiday in a list of weekdays
+abbrev pub weekday_role : Behind → Last → Role
+weekday_role behind.Mixed last.Comma = role.Kept
+weekday_role behind.Mixed l = role.Doubtful
+weekday_role b l = role.Kept
+
+-- a bracket or the sign of an offset: holidays have neither here
+abbrev pub sign_role : Behind → Role
+sign_role behind.Holidays = role.Misfit
+sign_role behind.Mixed = role.Misfit
+sign_role b = role.Kept
+
+abbrev pub token_role : Behind → Last → TokenKind → List Item → Role
+token_role b l kind.Comma later = comma_role b later
+token_role b l kind.Semicolon later = role.Begins link.Instead
+token_role b l (kind.Weekday d) later = weekday_role b l
+token_role b l kind.OpenBracket later = sign_role b
+token_role b l kind.Plus later = sign_role b
+token_role b l kind.Dash later = sign_role b
+token_role b l k later = role.Kept
+
+-- What becomes of an item at a position, where these come behind it.
+abbrev pub role_in : Position → What → List Item → Role
+role_in p (what.Holiday h) later = holiday_role p.behind p.last h later
+role_in p (what.Token k) later = token_role p.behind p.last k later
+
+abbrev pub role_of : Position → Item → List Item → Role
+role_of p item later = role_in p item.what later

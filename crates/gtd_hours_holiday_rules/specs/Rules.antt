@@ -1,0 +1,94 @@
+-- The rules of a text, each with its own text without holidays, and its holidays.
+use Rattle.std.specs.Prelude.{◌≡◌, ⊤, length, ℕ, Bool, true, false, List}
+use Rattle.std.specs.Prelude.{[], ◌∷◌, ◌++◌, Option, Some, None, codes, map, if◌then◌else◌}
+use Rattle.gtd_hours.specs.declared.hours.Link.{Link}
+use Rattle.gtd_hours.specs.declared.hours.Link.TheVariants as link
+use Rattle.gtd_hours_days.specs.declared.listed.Listed.{Listed}
+use Rattle.gtd_hours_holiday_rules.specs.declared.items.Item.{Item}
+use Rattle.gtd_hours_holiday_rules.specs.declared.parts.Part.{Part}
+use Rattle.gtd_hours_holiday_rules.specs.declared.role.Role.{Role}
+use Rattle.gtd_hours_holiday_rules.specs.declared.role.Role.TheVariants as role
+use Rattle.gtd_hours_holiday_rules.specs.declared.rules.Cut.{Cut}
+use Rattle.gtd_hours_holiday_rules.specs.declared.rules.HolidayRule.{HolidayRule}
+use Rattle.gtd_hours_holiday_rules.specs.Items.{stretch}
+
+-- What a rule says, apart from how it is kept in memory.
+pub record Said : Type 0 where
+  pub link : Link
+  pub text : List ℕ
+  pub is_led : Bool
+  pub holidays : List Listed
+  pub places : List ℕ
+
+abbrev pub said_by : HolidayRule → Said
+said_by rule = record {
+  link = rule.link;
+  text = rule.text.items;
+  is_led = rule.is_led;
+  holidays = rule.holidays.items;
+  places = rule.places.items;
+}
+
+-- A rule begins with this link.
+abbrev pub begun : Link → Said
+begun link = record { link = link; text = []; is_led = false; holidays = []; places = [] }
+
+abbrev pub with_text : Said → List ℕ → Said
+with_text rule bytes = record rule { text = rule.text ++ bytes }
+
+abbrev pub with_holiday : Said → Listed → ℕ → Said
+with_holiday rule h place = record rule { holidays = rule.holidays ++ h ∷ []; places = rule.places ++ place ∷ [] }
+
+abbrev pub with_leading : Said → Listed → ℕ → Said
+with_leading rule h place = record (with_holiday rule h place) { is_led = true }
+
+-- An item with this role goes on with a rule: its bytes and a space (32), or its holiday.
+abbrev pub with_item : List ℕ → Said → Role → Item → Said
+with_item text rule role.Kept item = with_text rule (stretch text item.from item.to ++ 32 ∷ [])
+with_item text rule (role.Leading h) item = with_leading rule h item.from
+with_item text rule (role.Listed h) item = with_holiday rule h item.from
+with_item text rule r item = rule
+
+-- the text of a rule of which nothing is left
+abbrev pub text_or_on : List ℕ → List ℕ
+text_or_on [] = codes "on"
+text_or_on (byte ∷ bytes) = byte ∷ bytes
+
+-- The rule ends.
+abbrev pub ended : Said → Said
+ended rule = record rule { text = text_or_on rule.text }
+
+-- how the rule that begins with an item stands to those before it, if one begins
+abbrev pub link_of : Role → Option Link
+link_of (role.Begins link) = Some link
+link_of r = None
+
+abbrev pub begins_rule : Option Link → Bool
+begins_rule (Some link) = true
+begins_rule None = false
+
+abbrev pub or_also : Option Link → Link
+or_also (Some link) = link
+or_also None = link.Also
+
+-- The rules of the parts that are left, where a rule has come so far.
+abbrev pub rules_from : List ℕ → Said → List Part → List Said
+rules_from text rule [] = ended rule ∷ []
+rules_from text rule (part ∷ parts) =
+    if begins_rule (link_of part.role)
+    then ended rule ∷ rules_from text (begun (or_also (link_of part.role))) parts
+    else rules_from text (with_item text rule part.role part.item) parts
+
+abbrev pub rules_of : List ℕ → List Part → List Said
+rules_of text parts = rules_from text (begun link.Instead) parts
+
+-- each of the rules has a place for each of its holidays
+abbrev pub HavePlaces : List Said → Type 0
+HavePlaces [] = ⊤
+HavePlaces (rule ∷ rules) = (length rule.places ≡ length rule.holidays) × HavePlaces rules
+
+-- ---- as the code has come so far
+
+-- The rules that have ended, and those of the last one and the parts that are left.
+abbrev pub all_rules : List ℕ → Cut → List Part → List Said
+all_rules text cut parts = map said_by cut.ended.items ++ rules_from text (said_by cut.last) parts

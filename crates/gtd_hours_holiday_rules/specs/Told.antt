@@ -1,0 +1,80 @@
+-- How faults of the checked text are told.
+use Rattle.std.specs.Prelude.{ℕ, ◌&&◌, ◌==◌, Bool, true, false, List, [], ◌∷◌, Option, Some, None, if◌then◌else◌}
+use Rattle.gtd_hours_grammar.specs.declared.fault.FaultKind.TheVariants as fault
+use Rattle.gtd_hours_grammar.specs.declared.fault.HoursFault.{HoursFault}
+use Rattle.gtd_hours_tokens.specs.declared.token.TokenKind.TheVariants as kind
+use Rattle.gtd_hours_holiday_rules.specs.declared.items.Item.{Item}
+use Rattle.gtd_hours_holiday_rules.specs.declared.items.What.{What}
+use Rattle.gtd_hours_holiday_rules.specs.declared.items.What.TheVariants as what
+use Rattle.gtd_hours_holiday_rules.specs.declared.behind.Behind.{Behind}
+use Rattle.gtd_hours_holiday_rules.specs.declared.behind.Behind.TheVariants as behind
+use Rattle.gtd_hours_holiday_rules.specs.declared.behind.Last.{Last}
+use Rattle.gtd_hours_holiday_rules.specs.declared.behind.Last.TheVariants as last
+use Rattle.gtd_hours_holiday_rules.specs.declared.behind.Position.{Position}
+use Rattle.gtd_hours_holiday_rules.specs.declared.role.Role.{Role}
+use Rattle.gtd_hours_holiday_rules.specs.declared.role.Role.TheVariants as role
+use Rattle.gtd_hours_holiday_rules.specs.declared.told.HolidayFault.{HolidayFault}
+use Rattle.gtd_hours_holiday_rules.specs.declared.told.HolidayFault.TheVariants as holiday_fault
+use Rattle.gtd_hours_holiday_rules.specs.declared.told.Instead.{Instead}
+use Rattle.gtd_hours_holiday_rules.specs.declared.told.Instead.TheVariants as instead
+use Rattle.gtd_hours_holiday_rules.specs.declared.told.Told.{Told}
+use Rattle.gtd_hours_holiday_rules.specs.Coming.{begins, is_number, is_weekday}
+
+abbrev pub is_day : What → Bool
+is_day (what.Token kind.Day) = true
+is_day w = false
+
+-- a number and `day`
+abbrev pub begins_days : List Item → Bool
+begins_days [] = false
+begins_days (i ∷ later) = is_number i.what && begins is_day later
+
+-- the place of the first item
+abbrev pub first_place : ℕ → List Item → ℕ
+first_place end [] = end
+first_place end (i ∷ later) = i.from
+
+abbrev pub is_sign : What → Bool
+is_sign (what.Token kind.Plus) = true
+is_sign (what.Token kind.Dash) = true
+is_sign w = false
+
+abbrev pub is_public : Last → Bool
+is_public last.Public = true
+is_public l = false
+
+-- What is wrong at the sign of an offset that is none, by the last item before it and those behind it. Directly behind a public
+-- holiday it is the number, where there are days; or a weekday, to which no offset leads. Else it is the sign itself.
+abbrev pub sign_fault : Last → ℕ → List Item → HoursFault
+sign_fault l place later =
+    if is_public l && begins_days later then record { kind = fault.Range; place = first_place place later }
+    else if is_public l && begins is_weekday later then record { kind = fault.Unsupported; place = first_place place later }
+    else record { kind = fault.Unexpected; place = place }
+
+-- What is wrong at an item that cannot stand where it does.
+abbrev pub misfit_fault : Last → Item → List Item → HoursFault
+misfit_fault l item later =
+    if is_sign item.what then sign_fault l item.from later else record { kind = fault.Unexpected; place = item.from }
+
+-- a fault at a weekday behind leading holidays is told where these begin
+abbrev pub led_instead : Behind → What → Option Instead
+led_instead (behind.Led from) w = if is_weekday w then Some (instead.Place from) else None
+led_instead b w = None
+
+-- How a fault at an item with this role is told, if not as it is.
+abbrev pub instead_of : Position → Role → Item → List Item → Option Instead
+instead_of p role.Doubtful item later = Some (instead.Ambiguous item.from)
+instead_of p role.Misfit item later = Some (instead.Fault (misfit_fault p.last item later))
+instead_of p r item later = led_instead p.behind item.what
+
+-- ---- a fault
+
+abbrev pub fault_by : HoursFault → Instead → HolidayFault
+fault_by bad (instead.Ambiguous place) = holiday_fault.Ambiguous place
+fault_by bad (instead.Fault other) = holiday_fault.Hours other
+fault_by bad (instead.Place place) = holiday_fault.Hours (record { kind = bad.kind; place = place })
+
+-- How a fault of the checked text is told: by the first of these at its place, or as it is.
+abbrev pub told_fault : HoursFault → List Told → HolidayFault
+told_fault bad [] = holiday_fault.Hours bad
+told_fault bad (t ∷ ts) = if t.at == bad.place then fault_by bad t.instead else told_fault bad ts

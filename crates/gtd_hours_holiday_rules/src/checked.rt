@@ -1,0 +1,89 @@
+//! The checked text: plain hours of the same length.
+
+ghost use Rattle.std.specs.Prelude.{◌≡◌, ◌-◌, IfOk, drop, option_map, set};
+ghost use Rattle.gtd_hours_holiday_rules.specs.Checked.{checked_text, first_or_space, form_of, put_over, written_over};
+
+use crate::parts::Part;
+use crate::role::Role;
+use std::alloc::{AllocError, Global};
+
+fn put_byte(bytes: &mut [u8], place: usize, byte: u8)
+    ensures { bytes.new ≡ set bytes.old place byte }
+{
+    if place < bytes.len() {
+        bytes[place] = byte;
+    }
+}
+
+fn first_or_space(form: &[u8]) -> u8
+    ensures { result ≡ first_or_space form.now }
+{
+    match form.first() {
+        None => b' ',
+        Some(byte) => *byte,
+    }
+}
+
+// The bytes behind the first one.
+fn behind_first(form: &[u8]) -> &[u8]
+    ensures { result.now ≡ drop 1 form.now }
+{
+    match form.split_first() {
+        None => form,
+        Some((_, later)) => later,
+    }
+}
+
+// Writes a form and spaces behind it over the bytes from one place up to another.
+fn put_over(bytes: &mut [u8], from: usize, to: usize, form: &[u8])
+    ensures { bytes.new ≡ put_over (to - from) bytes.old from form.now }
+{
+    let mut place = from;
+    let mut rest = form;
+    while place < to {
+        put_byte(bytes, place, first_or_space(rest));
+        rest = behind_first(rest);
+        place += 1;
+    }
+}
+
+// What an item is written over by, if it does not stay.
+fn form_of(role: Role) -> Option<&'static [u8]>
+    ensures { option_map (λ form. form.now) result ≡ form_of role }
+{
+    match role {
+        Role::Leading(_) => Some(b"".as_slice()),
+        Role::Gone => Some(b"".as_slice()),
+        Role::Listed(_) => Some(b"Mo".as_slice()),
+        Role::Doubtful => Some(b"PH".as_slice()),
+        Role::Misfit => Some(b"]".as_slice()),
+        _ => None,
+    }
+}
+
+fn write_over(bytes: &mut [u8], part: Part)
+    ensures { bytes.new ≡ written_over bytes.old part.item.from part.item.to (form_of part.role) }
+{
+    if let Some(form) = form_of(part.role) {
+        put_over(bytes, part.item.from, part.item.to, form);
+    }
+}
+
+fn write_all(bytes: &mut [u8], parts: &[Part])
+    ensures { bytes.new ≡ checked_text bytes.old parts.now }
+{
+    let mut rest = parts;
+    while let Some((part, later)) = rest.split_first() {
+        write_over(bytes, *part);
+        rest = later;
+    }
+}
+
+/// The checked text of a text with these parts.
+pub fn checked_text(alloc: Global, text: &[u8], parts: &[Part]) -> Result<Vec<u8>, AllocError>
+    ensures { IfOk result (λ checked. checked.items ≡ checked_text text.now parts.now) }
+{
+    let mut checked = text.to_vec(alloc)?;
+    write_all(checked.as_mut_slice(), parts);
+    Ok(checked)
+}

@@ -1,0 +1,25 @@
+//! Opening hours of OpenStreetMap with public and school holidays: a text as plain hours and holidays.
+//!
+//! A text with holidays is turned into rules, each with a text of plain hours and its holidays, and into one text of plain hours
+//! of the same length, which has a fault exactly where the text has one.
+#![tactic(auto)]
+
+mod behind;
+mod checked;
+mod coming;
+mod items;
+pub mod laws;
+mod offsets;
+mod parts;
+mod role;
+mod roles;
+mod rules;
+mod stop;
+mod text;
+mod tokens;
+mod told;
+
+pub use rules::HolidayRule;
+pub use stop::NoHolidayText;
+pub use text::{HolidayText, holiday_text};
+pub use told::{HolidayFault, Instead, Told, told_fault};

@@ -1,0 +1,25 @@
+//! What becomes of an item.
+
+use gtd_hours::Link;
+use gtd_hours_days::Listed;
+
+/// What becomes of an item, in the checked text and in the text of its rule.
+#[derive(Clone, Copy)]
+pub enum Role {
+    /// It is in both.
+    Kept,
+    /// A holiday that leads: it is one of the rule's, which is led, and in neither text.
+    Leading(Listed),
+    /// It is in neither text.
+    Gone,
+    /// It is in the checked text alone.
+    Unwritten,
+    /// Another holiday of the rule: a weekday stands for it in the checked text.
+    Listed(Listed),
+    /// People read what stands here in two ways: the checked text has a fault here.
+    Doubtful,
+    /// A sign or a bracket that holidays do not have, or a holiday where none can stand: the checked text has a fault here.
+    Misfit,
+    /// A rule begins behind it. It is in the checked text alone.
+    Begins(Link),
+}

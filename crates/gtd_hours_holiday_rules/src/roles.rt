@@ -1,0 +1,151 @@
+//! What becomes of an item, by what stands behind and before it.
+
+ghost use Rattle.std.specs.Prelude.{◌≡◌};
+ghost use Rattle.gtd_hours_holiday_rules.specs.Roles.{comma_role, days_comma, first_role, holiday_role, joined_role, kept_if};
+ghost use Rattle.gtd_hours_holiday_rules.specs.Roles.{role_of, sign_role, token_role, weekday_role};
+
+use crate::behind::{Behind, Last, Position};
+use crate::coming::{
+    begins_holiday, begins_month_days, begins_number, begins_time, begins_weekday, begins_year,
+    leads,
+};
+use crate::items::{Item, What};
+use crate::role::Role;
+use gtd_hours::Link;
+use gtd_hours_days::Listed;
+use gtd_hours_tokens::TokenKind;
+
+// A holiday where a list of days begins.
+fn first_role(holiday: Listed, later: &[Item]) -> Role
+    ensures { result ≡ first_role holiday later.now }
+{
+    if leads(later) {
+        Role::Leading(holiday)
+    } else {
+        Role::Listed(holiday)
+    }
+}
+
+// A holiday in a list with weekdays, where holidays lead it or not.
+fn joined_role(led: bool, last: Last, holiday: Listed) -> Role
+    ensures { result ≡ joined_role led last holiday }
+{
+    match last {
+        Last::Comma => {
+            if led {
+                Role::Doubtful
+            } else {
+                Role::Listed(holiday)
+            }
+        }
+        Last::Unfinished => Role::Misfit,
+        _ => Role::Doubtful,
+    }
+}
+
+fn holiday_role(behind: Behind, last: Last, holiday: Listed, later: &[Item]) -> Role
+    ensures { result ≡ holiday_role behind last holiday later.now }
+{
+    match behind {
+        Behind::Front => first_role(holiday, later),
+        Behind::Years => first_role(holiday, later),
+        Behind::MonthDays => first_role(holiday, later),
+        Behind::Weeks => first_role(holiday, later),
+        Behind::Colon => first_role(holiday, later),
+        Behind::Led { .. } => Role::Leading(holiday),
+        Behind::Weekdays { led } => joined_role(led, last, holiday),
+        _ => Role::Listed(holiday),
+    }
+}
+
+fn kept_if(goes_on: bool) -> Role
+    ensures { result ≡ kept_if goes_on }
+{
+    if goes_on {
+        Role::Kept
+    } else {
+        Role::Begins(Link::Also)
+    }
+}
+
+// A comma behind a list of days, with weekdays or without.
+fn days_comma(weekdays: bool, later: &[Item]) -> Role
+    ensures { result ≡ days_comma weekdays later.now }
+{
+    if begins_weekday(later) {
+        if weekdays {
+            Role::Kept
+        } else {
+            Role::Unwritten
+        }
+    } else if begins_holiday(later) {
+        Role::Unwritten
+    } else {
+        Role::Begins(Link::Also)
+    }
+}
+
+fn comma_role(behind: Behind, later: &[Item]) -> Role
+    ensures { result ≡ comma_role behind later.now }
+{
+    match behind {
+        Behind::Led { .. } => Role::Gone,
+        Behind::Holidays => days_comma(false, later),
+        Behind::Weekdays { .. } => days_comma(true, later),
+        Behind::Mixed => days_comma(true, later),
+        Behind::Years => kept_if(begins_year(later)),
+        Behind::MonthDays => kept_if(begins_month_days(later)),
+        Behind::Weeks => kept_if(begins_number(later)),
+        Behind::Times => kept_if(begins_time(later)),
+        Behind::Places { .. } => Role::Kept,
+        _ => Role::Begins(Link::Also),
+    }
+}
+
+// A weekday: directly behind a holiday in a list with weekdays it is read in two ways.
+fn weekday_role(behind: Behind, last: Last) -> Role
+    ensures { result ≡ weekday_role behind last }
+{
+    match behind {
+        Behind::Mixed => match last {
+            Last::Comma => Role::Kept,
+            _ => Role::Doubtful,
+        },
+        _ => Role::Kept,
+    }
+}
+
+// A bracket or the sign of an offset: holidays have neither here.
+fn sign_role(behind: Behind) -> Role
+    ensures { result ≡ sign_role behind }
+{
+    match behind {
+        Behind::Holidays => Role::Misfit,
+        Behind::Mixed => Role::Misfit,
+        _ => Role::Kept,
+    }
+}
+
+fn token_role(behind: Behind, last: Last, kind: TokenKind, later: &[Item]) -> Role
+    ensures { result ≡ token_role behind last kind later.now }
+{
+    match kind {
+        TokenKind::Comma => comma_role(behind, later),
+        TokenKind::Semicolon => Role::Begins(Link::Instead),
+        TokenKind::Weekday(_) => weekday_role(behind, last),
+        TokenKind::OpenBracket => sign_role(behind),
+        TokenKind::Plus => sign_role(behind),
+        TokenKind::Dash => sign_role(behind),
+        _ => Role::Kept,
+    }
+}
+
+/// What becomes of an item at a position, where these come behind it.
+pub fn role_of(position: Position, item: Item, later: &[Item]) -> Role
+    ensures { result ≡ role_of position item later.now }
+{
+    match item.what {
+        What::Holiday(holiday) => holiday_role(position.behind, position.last, holiday, later),
+        What::Token(kind) => token_role(position.behind, position.last, kind, later),
+    }
+}

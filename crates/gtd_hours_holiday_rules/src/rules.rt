@@ -1,0 +1,140 @@
+//! The rules of a text, each with its own text without holidays, and its holidays.
+
+ghost use Rattle.std.specs.Prelude.{◌≡◌, ◌++◌, ◌∷◌, [], List, IfOk, OnOk, map};
+ghost use Rattle.gtd_hours_holiday_rules.specs.Rules.{all_rules, begun, ended, link_of, rules_of, said_by, with_holiday};
+ghost use Rattle.gtd_hours_holiday_rules.specs.Rules.{with_item, with_text};
+ghost use Rattle.gtd_hours_holiday_rules.specs.declared.parts.Part.{Part};
+
+use crate::items::{Item, stretch};
+use crate::parts::Part;
+use crate::role::Role;
+use gtd_hours::Link;
+use gtd_hours_days::Listed;
+use std::alloc::{AllocError, Global};
+use std::mem::replace;
+
+/// A rule of a text with holidays.
+#[derive(Drop)]
+pub struct HolidayRule {
+    /// How it stands to the rules before it.
+    pub link: Link,
+    /// Its text without holidays: plain hours of one rule.
+    pub text: Vec<u8>,
+    /// Whether its holidays lead: then a day must be one of them as well as what the text says. Else it must be one of them or
+    /// one of the text's weekdays.
+    pub is_led: bool,
+    /// Its holidays, from left to right.
+    pub holidays: Vec<Listed>,
+    /// Where each of them begins in the whole text.
+    pub places: Vec<usize>,
+}
+
+/// The rules that have ended, and the last one so far.
+#[derive(Drop)]
+pub struct Cut {
+    /// The rules that have ended.
+    pub ended: Vec<HolidayRule>,
+    /// The last one.
+    pub last: HolidayRule,
+}
+
+fn begun(alloc: Global, link: Link) -> HolidayRule
+    ensures { said_by result ≡ begun link }
+{
+    HolidayRule {
+        link,
+        text: Vec::new(alloc),
+        is_led: false,
+        holidays: Vec::new(alloc),
+        places: Vec::new(alloc),
+    }
+}
+
+fn push_text(rule: &mut HolidayRule, bytes: &[u8]) -> Result<(), AllocError>
+    ensures { OnOk result (said_by rule.new ≡ with_text (said_by rule.old) (bytes.now ++ 32 ∷ [])) }
+{
+    rule.text.extend_from_slice(bytes)?;
+    rule.text.push(b' ')?;
+    Ok(())
+}
+
+fn push_holiday(rule: &mut HolidayRule, holiday: Listed, place: usize) -> Result<(), AllocError>
+    ensures { OnOk result (said_by rule.new ≡ with_holiday (said_by rule.old) holiday place) }
+{
+    rule.holidays.push(holiday)?;
+    rule.places.push(place)?;
+    Ok(())
+}
+
+// An item of which this becomes goes on with a rule.
+fn push_item(rule: &mut HolidayRule, text: &[u8], role: Role, item: Item) -> Result<(), AllocError>
+    ensures { OnOk result (said_by rule.new ≡ with_item text.now (said_by rule.old) role item) }
+{
+    match role {
+        Role::Kept => push_text(rule, stretch(text, item.from, item.to)),
+        Role::Leading(holiday) => {
+            rule.is_led = true;
+            push_holiday(rule, holiday, item.from)
+        }
+        Role::Listed(holiday) => push_holiday(rule, holiday, item.from),
+        _ => Ok(()),
+    }
+}
+
+// The rule ends: one of which nothing is left has a text that says nothing more.
+fn end(rule: &mut HolidayRule) -> Result<(), AllocError>
+    ensures { OnOk result (said_by rule.new ≡ ended (said_by rule.old)) }
+{
+    if rule.text.is_empty() {
+        rule.text.extend_from_slice(b"on")?;
+    }
+    Ok(())
+}
+
+// How the rule that begins with an item stands to those before it, if one begins.
+fn link_of(role: Role) -> Option<Link>
+    ensures { result ≡ link_of role }
+{
+    match role {
+        Role::Begins(link) => Some(link),
+        _ => None,
+    }
+}
+
+// The last rule ends, and another begins.
+fn begin(cut: &mut Cut, alloc: Global, link: Link) -> Result<(), AllocError>
+    ensures ended { OnOk result (map said_by cut.new.ended.items
+        ≡ map said_by cut.old.ended.items ++ ended (said_by cut.old.last) ∷ []) }
+    ensures last { OnOk result (said_by cut.new.last ≡ begun link) }
+{
+    end(&mut cut.last)?;
+    let ended = replace(&mut cut.last, begun(alloc, link));
+    cut.ended.push(ended)?;
+    Ok(())
+}
+
+fn put_part(cut: &mut Cut, alloc: Global, text: &[u8], part: Part) -> Result<(), AllocError>
+    ensures { OnOk result ((parts : List Part) → all_rules text.now cut.new parts ≡ all_rules text.now cut.old (part ∷ parts)) }
+{
+    match link_of(part.role) {
+        Some(link) => begin(cut, alloc, link),
+        None => push_item(&mut cut.last, text, part.role, part.item),
+    }
+}
+
+/// The rules of a text with these parts.
+pub fn rules_of(alloc: Global, text: &[u8], parts: &[Part]) -> Result<Vec<HolidayRule>, AllocError>
+    ensures { IfOk result (λ rules. map said_by rules.items ≡ rules_of text.now parts.now) }
+{
+    let mut cut = Cut {
+        ended: Vec::new(alloc),
+        last: begun(alloc, Link::Instead),
+    };
+    let mut rest = parts;
+    while let Some((part, later)) = rest.split_first() {
+        put_part(&mut cut, alloc, text, *part)?;
+        rest = later;
+    }
+    begin(&mut cut, alloc, Link::Instead)?;
+    Ok(cut.ended)
+}

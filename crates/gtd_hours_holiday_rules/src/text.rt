@@ -1,0 +1,62 @@
+//! A text with holidays as plain hours and holidays.
+
+ghost use Rattle.std.specs.Prelude.{◌≡◌, IfErr, IfOk, length};
+ghost use Rattle.gtd_hours_holiday_rules.specs.Items.{items_of};
+ghost use Rattle.gtd_hours_holiday_rules.specs.Parts.{parts_of};
+ghost use Rattle.gtd_hours_holiday_rules.specs.Reading.{HasParts, IsHolidayText, IsNoHolidayText};
+
+use crate::checked::checked_text;
+use crate::items::items_of;
+use crate::parts::{Part, parts_of, told_of};
+use crate::rules::{HolidayRule, rules_of};
+use crate::stop::NoHolidayText;
+use crate::tokens::tokens_of;
+use crate::told::Told;
+use gtd_hours_tokens::Token;
+use std::alloc::{AllocError, Global};
+
+/// A text with holidays as plain hours and holidays.
+#[derive(Drop)]
+pub struct HolidayText {
+    /// Plain hours of the length of the text, with a fault exactly where the text has one.
+    pub checked: Vec<u8>,
+    /// Its rules, from left to right.
+    pub rules: Vec<HolidayRule>,
+    /// How faults of the checked text are told.
+    pub told: Vec<Told>,
+}
+
+// The text with these parts.
+fn with_parts(alloc: Global, text: &[u8], parts: &[Part]) -> Result<HolidayText, AllocError>
+    ensures { IfOk result (HasParts text.now parts.now) }
+{
+    let checked = checked_text(alloc, text, parts)?;
+    let rules = rules_of(alloc, text, parts)?;
+    let told = told_of(alloc, parts)?;
+    Ok(HolidayText {
+        checked,
+        rules,
+        told,
+    })
+}
+
+// The text of these tokens.
+fn with_tokens(alloc: Global, text: &[u8], tokens: &[Token]) -> Result<HolidayText, AllocError>
+    ensures { IfOk result (HasParts text.now (parts_of (items_of text.now tokens.now))) }
+{
+    let items = items_of(alloc, text, tokens)?;
+    let parts = parts_of(alloc, items.as_slice())?;
+    with_parts(alloc, text, parts.as_slice())
+}
+
+/// A text with holidays as plain hours and holidays. Errors: the first byte with which no token begins; or that there is no
+/// memory.
+pub fn holiday_text(alloc: Global, text: &[u8]) -> Result<HolidayText, NoHolidayText>
+    ensures text { IfOk result (IsHolidayText text.now) }
+    ensures length { IfOk result (λ read. length read.checked.items ≡ length text.now) }
+    ensures fault { IfErr result (IsNoHolidayText text.now) }
+{
+    let tokens = tokens_of(alloc, text)?;
+    let read = with_tokens(alloc, text, tokens.as_slice())?;
+    Ok(read)
+}

@@ -1,0 +1,197 @@
+//! How faults of the checked text are told.
+
+ghost use Rattle.std.specs.Prelude.{◌≡◌};
+ghost use Rattle.gtd_hours_holiday_rules.specs.Coming.{begins};
+ghost use Rattle.gtd_hours_holiday_rules.specs.Told.{begins_days, fault_by, first_place, instead_of, is_day, is_public};
+ghost use Rattle.gtd_hours_holiday_rules.specs.Told.{is_sign, led_instead, misfit_fault, sign_fault, told_fault};
+
+use crate::behind::{Behind, Last, Position};
+use crate::coming::{begins_weekday, is_number, is_weekday};
+use crate::items::{Item, What};
+use crate::role::Role;
+use gtd_hours_grammar::{FaultKind, HoursFault};
+use gtd_hours_tokens::TokenKind;
+use thiserror::Error;
+
+/// How a fault of the checked text is told.
+#[derive(Clone, Copy, Debug)]
+pub enum Instead {
+    /// People read what stands here in two ways.
+    Ambiguous {
+        /// The number of bytes before it.
+        place: usize,
+    },
+    /// As this fault.
+    Fault(HoursFault),
+    /// As it is, but at this place.
+    Place(usize),
+}
+
+/// A place at which a fault of the checked text is told otherwise.
+#[derive(Clone, Copy, Debug)]
+pub struct Told {
+    /// The place in the checked text.
+    pub at: usize,
+    /// How it is told.
+    pub instead: Instead,
+}
+
+/// What is wrong with a text with holidays.
+#[derive(Clone, Copy, Debug, PartialEq, Eq, Error)]
+pub enum HolidayFault {
+    /// A fault of opening hours.
+    #[error("{0}")]
+    Hours(HoursFault),
+    /// People read what stands here in two ways.
+    #[error("Ambiguous at {place}")]
+    Ambiguous {
+        /// The number of bytes before it.
+        place: usize,
+    },
+}
+
+fn is_day(what: What) -> bool
+    ensures { result ≡ is_day what }
+{
+    match what {
+        What::Token(TokenKind::Day) => true,
+        _ => false,
+    }
+}
+
+fn begins_day(items: &[Item]) -> bool
+    ensures { result ≡ begins is_day items.now }
+{
+    match items.first() {
+        None => false,
+        Some(item) => is_day(item.what),
+    }
+}
+
+// A number and `day`.
+fn begins_days(items: &[Item]) -> bool
+    ensures { result ≡ begins_days items.now }
+{
+    match items.split_first() {
+        None => false,
+        Some((item, later)) => is_number(item.what) && begins_day(later),
+    }
+}
+
+fn first_place(end: usize, items: &[Item]) -> usize
+    ensures { result ≡ first_place end items.now }
+{
+    match items.first() {
+        None => end,
+        Some(item) => item.from,
+    }
+}
+
+fn is_sign(what: What) -> bool
+    ensures { result ≡ is_sign what }
+{
+    match what {
+        What::Token(TokenKind::Plus) => true,
+        What::Token(TokenKind::Dash) => true,
+        _ => false,
+    }
+}
+
+fn is_public(last: Last) -> bool
+    ensures { result ≡ is_public last }
+{
+    match last {
+        Last::Public => true,
+        _ => false,
+    }
+}
+
+// What is wrong at the sign of an offset that is none.
+fn sign_fault(last: Last, place: usize, later: &[Item]) -> HoursFault
+    ensures { result ≡ sign_fault last place later.now }
+{
+    if is_public(last) && begins_days(later) {
+        HoursFault {
+            kind: FaultKind::Range,
+            place: first_place(place, later),
+        }
+    } else if is_public(last) && begins_weekday(later) {
+        HoursFault {
+            kind: FaultKind::Unsupported,
+            place: first_place(place, later),
+        }
+    } else {
+        HoursFault {
+            kind: FaultKind::Unexpected,
+            place,
+        }
+    }
+}
+
+// What is wrong at an item that cannot stand where it does.
+fn misfit_fault(last: Last, item: Item, later: &[Item]) -> HoursFault
+    ensures { result ≡ misfit_fault last item later.now }
+{
+    if is_sign(item.what) {
+        sign_fault(last, item.from, later)
+    } else {
+        HoursFault {
+            kind: FaultKind::Unexpected,
+            place: item.from,
+        }
+    }
+}
+
+// A fault at a weekday behind leading holidays is told where these begin.
+fn led_instead(behind: Behind, what: What) -> Option<Instead>
+    ensures { result ≡ led_instead behind what }
+{
+    match behind {
+        Behind::Led { from } => {
+            if is_weekday(what) {
+                Some(Instead::Place(from))
+            } else {
+                None
+            }
+        }
+        _ => None,
+    }
+}
+
+/// How a fault at an item is told, of which this becomes and which these items follow, if not as it is.
+pub fn instead_of(position: Position, role: Role, item: Item, later: &[Item]) -> Option<Instead>
+    ensures { result ≡ instead_of position role item later.now }
+{
+    match role {
+        Role::Doubtful => Some(Instead::Ambiguous { place: item.from }),
+        Role::Misfit => Some(Instead::Fault(misfit_fault(position.last, item, later))),
+        _ => led_instead(position.behind, item.what),
+    }
+}
+
+fn fault_by(bad: HoursFault, instead: Instead) -> HolidayFault
+    ensures { result ≡ fault_by bad instead }
+{
+    match instead {
+        Instead::Ambiguous { place } => HolidayFault::Ambiguous { place },
+        Instead::Fault(other) => HolidayFault::Hours(other),
+        Instead::Place(place) => HolidayFault::Hours(HoursFault {
+            kind: bad.kind,
+            place,
+        }),
+    }
+}
+
+/// How a fault of the checked text is told.
+pub fn told_fault(bad: HoursFault, told: &[Told]) -> HolidayFault
+    ensures told { result ≡ told_fault bad told.now }
+{
+    let mut rest = told;
+    while let Some((first, later)) = rest.split_first() {
+        if first.at == bad.place {
+            return fault_by(bad, first.instead);
+        }
+        rest = later;
+    }
+    HolidayFault::Hours(bad)
+}

@@ -1,0 +1,131 @@
+-- The days that match a rule with days of holidays.
+use Rattle.std.proofs.Common.{◌≡◌, ◌∙◌, ap, refl, sym, subst, if◌then◌else◌, ◌⊎◌, inl, inr, ◌↔◌, Bool, true, false}
+use Rattle.std.proofs.Common.{List, [], ◌∷◌, ◌++◌, ℤ}
+use Rattle.gtd_calendar.specs.Calendar.{AreFieldsOf}
+use Rattle.gtd_calendar.specs.declared.day.DayFields.{DayFields}
+use Rattle.gtd_hours.specs.Opening.{EachHolds, Matches, SomeHolds}
+use Rattle.gtd_hours.specs.Writable.{selectors}
+use Rattle.gtd_hours.specs.declared.hours.Kind.{Kind}
+use Rattle.gtd_hours.specs.declared.hours.Selector.{Selector}
+use Rattle.gtd_hours_known.specs.Joining.{has_weekdays, last_with, names_weekdays, with_days}
+use Rattle.gtd_hours_known.proofs.JoiningLemmas.{days_last, kind_more}
+
+-- of each kind of selectors one holds
+abbrev pub EachOf : List (List Selector) → ℤ → DayFields → Type 0
+EachOf [] n f = Unit {0}
+EachOf (kind ∷ kinds) n f = SomeHolds kind n f × EachOf kinds n f
+
+each_of : (kinds : List Kind) (n : ℤ) (f : DayFields) → EachHolds kinds n f → EachOf (selectors kinds) n f
+each_of [] n f h = tt
+each_of (kind ∷ kinds) n f h = (h.0, each_of kinds n f h.1)
+
+each_holds : (kinds : List Kind) (n : ℤ) (f : DayFields) → EachOf (selectors kinds) n f → EachHolds kinds n f
+each_holds [] n f h = tt
+each_holds (kind ∷ kinds) n f h = (h.0, each_holds kinds n f h.1)
+
+some_append : (xs ys : List Selector) (n : ℤ) (f : DayFields)
+    → SomeHolds (xs ++ ys) n f ↔ (SomeHolds xs n f ⊎ SomeHolds ys n f)
+some_append [] ys n f = ((λ h. inr h), (λ h. elim h [ inl a ↦ absurd a | inr a ↦ a ]))
+some_append (x ∷ xs) ys n f =
+    let more = some_append xs ys n f in (
+      (λ h. elim h [
+        | inl a ↦ inl (inl a)
+        | inr a ↦ elim (more.0 a) [ inl b ↦ inl (inr b) | inr b ↦ inr b ]
+      ]),
+      (λ h. elim h [
+        | inl a ↦ elim a [ inl b ↦ inl b | inr b ↦ inr (more.1 (inl b)) ]
+        | inr a ↦ inr (more.1 (inr a))
+      ]),
+    )
+
+-- the last of some kinds
+each_last : (kinds last : List (List Selector)) (n : ℤ) (f : DayFields)
+    → EachOf (kinds ++ last) n f ↔ (EachOf kinds n f × EachOf last n f)
+each_last [] last n f = ((λ h. (tt, h)), (λ h. h.1))
+each_last (kind ∷ kinds) last n f =
+    let more = each_last kinds last n f in (
+      (λ h. let p = more.0 h.1 in ((h.0, p.0), p.1)),
+      (λ h. (h.0.0, more.1 (h.0.1, h.1))),
+    )
+
+-- ---- days as a kind of their own
+
+own_shape : (of_week led : Bool) (days kind : List Selector) (n : ℤ) (f : DayFields) → ((led ≡ true) ⊎ (of_week ≡ false))
+    → EachOf (if of_week then (if led then days ∷ kind ∷ [] else (kind ++ days) ∷ []) else kind ∷ days ∷ []) n f
+    ↔ (SomeHolds kind n f × SomeHolds days n f)
+own_shape true true days kind n f own = ((λ h. (h.1.0, h.0)), (λ h. (h.1, (h.0, tt))))
+own_shape true false days kind n f (inl e) = absurd cc
+own_shape true false days kind n f (inr e) = absurd cc
+own_shape false led days kind n f own = ((λ h. (h.0, h.1.0)), (λ h. (h.0, (h.1, tt))))
+
+with_own : (led : Bool) (days : List Selector) (kinds : List (List Selector)) (n : ℤ) (f : DayFields)
+    → ((led ≡ true) ⊎ (has_weekdays kinds ≡ false))
+    → EachOf (with_days led days kinds) n f ↔ (EachOf kinds n f × SomeHolds days n f)
+with_own led days [] n f own = ((λ h. (tt, h.0)), (λ h. (h.1, tt)))
+with_own led days (kind ∷ []) n f own =
+    let last = own_shape (names_weekdays kind) led days kind n f own in (
+      (λ h. let both = last.0 h in ((both.0, tt), both.1)),
+      (λ h. last.1 (h.0.0, h.1)),
+    )
+with_own led days (kind ∷ more ∷ kinds) n f own =
+    let rest = with_own led days (more ∷ kinds) n f own in (
+      (λ h. let both = rest.0 h.1 in ((h.0, both.0), both.1)),
+      (λ h. (h.0.0, rest.1 (h.0.1, h.1))),
+    )
+
+pub own_matches : (IsDay : ℤ → Type 0) (led : Bool) (days : List Selector) (rule made : List Kind)
+    → ((led ≡ true) ⊎ (has_weekdays (selectors rule) ≡ false)) → selectors made ≡ with_days led days (selectors rule)
+    → ((n : ℤ) (f : DayFields) → SomeHolds days n f ↔ IsDay n) → (n : ℤ) → Matches made n ↔ (Matches rule n × IsDay n)
+own_matches IsDay led days rule made own are is n = (
+  (λ h.
+      let all = subst (λ (l : List (List Selector)). EachOf l n h.0) are (each_of made n h.0 h.2) in
+      let both = (with_own led days (selectors rule) n h.0 own).0 all in
+      ((h.0, h.1, each_holds rule n h.0 both.0), (is n h.0).0 both.1)),
+  (λ h.
+      let f = h.0.0 in
+      let both = (with_own led days (selectors rule) n f own).1 (each_of rule n f h.0.2, (is n f).1 h.1) in
+      (f, h.0.1, each_holds made n f (subst (λ (l : List (List Selector)). EachOf l n f) (sym are) both))),
+)
+
+-- ---- days beside weekdays
+
+joined_shape : (days kind : List Selector) → names_weekdays kind ≡ true → last_with false days kind ≡ (kind ++ days) ∷ []
+joined_shape days kind e = rw e refl
+
+joined_kinds : (days : List Selector) (others : List Kind) (weekdays : Kind) → names_weekdays weekdays.selectors.items ≡ true
+    → with_days false days (selectors (others ++ weekdays ∷ []))
+    ≡ selectors others ++ (weekdays.selectors.items ++ days) ∷ []
+joined_kinds days others weekdays e =
+    ap (λ (l : List (List Selector)). with_days false days l) (kind_more others weekdays)
+    ∙ days_last false days (selectors others) weekdays.selectors.items
+    ∙ ap (λ (l : List (List Selector)). selectors others ++ l) (joined_shape days weekdays.selectors.items e)
+
+-- of all other kinds one holds, and of the weekdays or the days
+abbrev pub MatchesBeside : (ℤ → Type 0) → List Kind → Kind → ℤ → Type 0
+MatchesBeside IsDay others weekdays n = (f : DayFields) × AreFieldsOf n f × EachHolds others n f
+    × (SomeHolds weekdays.selectors.items n f ⊎ IsDay n)
+
+pub joined_matches : (IsDay : ℤ → Type 0) (days : List Selector) (rule made others : List Kind) (weekdays : Kind)
+    → rule ≡ others ++ weekdays ∷ [] → names_weekdays weekdays.selectors.items ≡ true
+    → selectors made ≡ with_days false days (selectors rule) → ((n : ℤ) (f : DayFields) → SomeHolds days n f ↔ IsDay n)
+    → (n : ℤ) → Matches made n ↔ MatchesBeside IsDay others weekdays n
+joined_matches IsDay days rule made others weekdays split e are is n =
+    let same = are ∙ ap (λ (l : List Kind). with_days false days (selectors l)) split ∙ joined_kinds days others weekdays e in
+    let last = (weekdays.selectors.items ++ days) ∷ [] in (
+      (λ h.
+          let f = h.0 in
+          let all = subst (λ (l : List (List Selector)). EachOf l n f) same (each_of made n f h.2) in
+          let both = (each_last (selectors others) last n f).0 all in
+          let some = (some_append weekdays.selectors.items days n f).0 both.1.0 in (
+            f,
+            h.1,
+            each_holds others n f both.0,
+            elim some [ inl a ↦ inl a | inr a ↦ inr ((is n f).0 a) ],
+          )),
+      (λ h.
+          let f = h.0 in
+          let some = (some_append weekdays.selectors.items days n f).1
+          (elim (h.3) [ inl a ↦ inl a | inr a ↦ inr ((is n f).1 a) ]) in
+          let all = (each_last (selectors others) last n f).1 (each_of others n f h.2, (some, tt)) in
+          (f, h.1, each_holds made n f (subst (λ (l : List (List Selector)). EachOf l n f) (sym same) all))),
+    )

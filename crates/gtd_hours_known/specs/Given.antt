@@ -1,0 +1,60 @@
+-- What the holidays of a text need and is not given: a table, and years.
+use Rattle.std.specs.Prelude.{ℕ, ◌&&◌, ◌||◌, Bool, true, false, if◌then◌else◌, List, [], ◌∷◌, drop, Option, Some, None}
+use Rattle.gtd_hours_days.specs.Listed.{kind_of}
+use Rattle.gtd_hours_days.specs.declared.listed.Listed.{Listed}
+use Rattle.gtd_hours_holidays.specs.declared.holidays.Holidays.{Holidays}
+use Rattle.gtd_hours_holidays.specs.declared.known_years.KnownYears.{KnownYears}
+use Rattle.gtd_hours_holidays.specs.declared.row.HolidayKind.{HolidayKind}
+use Rattle.gtd_hours_holidays.specs.declared.row.HolidayKind.TheVariants as kind
+use Rattle.gtd_hours_holidays.specs.declared.row.HolidayRow.{HolidayRow}
+use Rattle.gtd_hours_holiday_rules.specs.declared.rules.HolidayRule.{HolidayRule}
+use Rattle.gtd_hours_known.specs.Rules.{first_place}
+use Rattle.gtd_hours_known.specs.declared.fault.KnownFault.{KnownFault}
+use Rattle.gtd_hours_known.specs.declared.fault.KnownFault.TheVariants as fault
+use Rattle.gtd_hours_known.specs.declared.known.Known.{Known}
+
+-- the two kinds are the same
+abbrev pub is_kind : HolidayKind → HolidayKind → Bool
+is_kind kind.Public kind.Public = true
+is_kind kind.School kind.School = true
+is_kind a b = false
+
+-- some row says that all holidays of the kind on its days are in the table
+abbrev pub covers : List HolidayRow → HolidayKind → Bool
+covers [] kind = false
+covers (row ∷ rows) kind = (row.covers && is_kind row.kind kind) || covers rows kind
+
+-- and so for the kind of a holiday, if it has one
+abbrev pub covers_some : List HolidayRow → Option HolidayKind → Bool
+covers_some rows None = true
+covers_some rows (Some kind) = covers rows kind
+
+-- there is a table, and it is one of such holidays
+abbrev pub has_table : Option Holidays → Listed → Bool
+has_table None h = false
+has_table (Some table) h = covers_some table.rows.items (kind_of h)
+
+-- no years are given
+abbrev pub no_years : Option KnownYears → ℕ → Option KnownFault
+no_years None place = Some (fault.Years place)
+no_years (Some years) place = None
+
+-- what is not given for a holiday that stands at a place
+abbrev pub not_given : Known → Listed → ℕ → Option KnownFault
+not_given known h place =
+    if has_table known.holidays h then no_years known.years place else Some (fault.Holidays place)
+
+abbrev pub or_later : Option KnownFault → Option KnownFault → Option KnownFault
+or_later None later = later
+or_later (Some bad) later = Some bad
+
+-- for the first of some holidays at these places for which something is not
+abbrev pub none_given : Known → List Listed → List ℕ → Option KnownFault
+none_given known [] places = None
+none_given known (h ∷ holidays) places =
+    or_later (not_given known h (first_place places)) (none_given known holidays (drop 1 places))
+
+-- and for the first of those of some rules
+abbrev pub missing : Known → List HolidayRule → Option KnownFault
+missing known [] = None
+missing known (rule ∷ rules) = or_later (none_given known rule.holidays.items rule.places.items) (missing known rules)

@@ -1,0 +1,45 @@
+-- A rule with days of holidays: a kind of selectors of its own, or more selectors in the kind of weekdays.
+use Rattle.std.specs.Prelude.{◌≡◌, Bool, true, false, if◌then◌else◌, List, [], ◌∷◌, ◌++◌}
+use Rattle.gtd_hours.specs.Writable.{selectors}
+use Rattle.gtd_hours.specs.declared.hours.Link.{Link}
+use Rattle.gtd_hours.specs.declared.hours.Rule.{Rule}
+use Rattle.gtd_hours.specs.declared.hours.Selector.{Selector}
+use Rattle.gtd_hours.specs.declared.hours.Selector.TheVariants.{Weekdays, Nth, NthBack, Moved}
+
+-- the selector is one of weekdays
+abbrev pub is_of_week : Selector → Bool
+is_of_week (Weekdays days) = true
+is_of_week (Nth place) = true
+is_of_week (NthBack place) = true
+is_of_week (Moved place) = true
+is_of_week x = false
+
+-- A kind of selectors is that of weekdays if its first one is.
+abbrev pub names_weekdays : List Selector → Bool
+names_weekdays [] = false
+names_weekdays (x ∷ xs) = is_of_week x
+
+-- The last kind with days of holidays. Those that lead weekdays, and all behind another kind, are a kind of their own, so that
+-- both must hold; others are joined to the weekdays, so that either must.
+abbrev pub last_with : Bool → List Selector → List Selector → List (List Selector)
+last_with led days kind =
+    if names_weekdays kind then (if led then days ∷ kind ∷ [] else (kind ++ days) ∷ []) else kind ∷ days ∷ []
+
+-- the selectors of each kind with days of holidays
+abbrev pub with_days : Bool → List Selector → List (List Selector) → List (List Selector)
+with_days led days [] = days ∷ []
+with_days led days (kind ∷ []) = last_with led days kind
+with_days led days (kind ∷ more ∷ kinds) = kind ∷ with_days led days (more ∷ kinds)
+
+-- The rule with days of holidays and another link; its times, and whether it is closed, stay.
+pub record IsWithDays (by : Link) (led : Bool) (days : List Selector) (rule made : Rule) : Type 0 where
+  pub link : made.link ≡ by
+  pub kinds : selectors made.kinds.items ≡ with_days led days (selectors rule.kinds.items)
+  pub times : made.times ≡ rule.times
+  pub modifier : made.modifier ≡ rule.modifier
+
+-- the last kind is that of weekdays
+abbrev pub has_weekdays : List (List Selector) → Bool
+has_weekdays [] = false
+has_weekdays (kind ∷ []) = names_weekdays kind
+has_weekdays (kind ∷ more ∷ kinds) = has_weekdays (more ∷ kinds)

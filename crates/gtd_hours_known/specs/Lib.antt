@@ -1,0 +1,13 @@
+pub mod HolidayDays
+pub mod Joining
+pub mod Rules
+pub mod Given
+pub mod Faults
+pub mod Reading
+pub mod Manners
+pub use Rattle.gtd_calendar.specs.Calendar
+pub use Rattle.gtd_calendar.specs.declared.day.DayFields
+pub use Rattle.gtd_hours.specs.Opening
+pub use Rattle.gtd_hours.specs.Writable
+pub use Rattle.gtd_hours_days.specs.Listed
+pub use Rattle.gtd_hours_days.specs.Parts

@@ -1,0 +1,114 @@
+-- The rules of hours that the rules of a text with holidays stand for.
+use Rattle.std.specs.Prelude.{◌≡◌, ◌⊎◌, ℕ, Bool, List, [], ◌∷◌, ◌++◌, Option, Some, None, get_or, ℤ}
+use Rattle.gtd_hours.specs.declared.hours.Hours.{Hours}
+use Rattle.gtd_hours.specs.declared.hours.Link.{Link}
+use Rattle.gtd_hours.specs.declared.hours.Rule.{Rule}
+use Rattle.gtd_hours.specs.declared.hours.Selector.{Selector}
+use Rattle.gtd_hours_grammar.specs.Faults.{IsFirstFault}
+use Rattle.gtd_hours_grammar.specs.declared.fault.HoursFault.{HoursFault}
+use Rattle.gtd_hours_text.specs.Standing.{StandsFor}
+use Rattle.gtd_hours_days.specs.Listed.{CoversAll, IsUncovered}
+use Rattle.gtd_hours_days.specs.declared.listed.Listed.{Listed}
+use Rattle.gtd_hours_days.specs.declared.selection.ListedFault.{ListedFault}
+use Rattle.gtd_hours_days.specs.declared.selection.ListedFault.TheVariants as listed_fault
+use Rattle.gtd_hours_holidays.specs.declared.holidays.Holidays.{Holidays}
+use Rattle.gtd_hours_holidays.specs.declared.known_years.KnownYears.{KnownYears}
+use Rattle.gtd_hours_holiday_rules.specs.declared.rules.HolidayRule.{HolidayRule}
+use Rattle.gtd_hours_loose.specs.Reading.{IsStrict}
+use Rattle.gtd_hours_known.specs.HolidayDays.{AreDaysOf}
+use Rattle.gtd_hours_known.specs.Joining.{IsWithDays}
+use Rattle.gtd_hours_known.specs.declared.rules.RulesStop.{RulesStop}
+use Rattle.gtd_hours_known.specs.declared.rules.RulesStop.TheVariants as stop
+
+-- ---- the first holiday
+
+-- the first of these places
+abbrev pub first_place : List ℕ → ℕ
+first_place [] = 0
+first_place (place ∷ places) = place
+
+-- where the first of some holidays at these places stands, or else another one
+abbrev pub first_or : List Listed → List ℕ → Option ℕ → Option ℕ
+first_or [] places later = later
+first_or (h ∷ holidays) places later = Some (first_place places)
+
+-- where the first holiday of the first rule that has one stands
+abbrev pub first_holiday : List HolidayRule → Option ℕ
+first_holiday [] = None
+first_holiday (rule ∷ rules) = first_or rule.holidays.items rule.places.items (first_holiday rules)
+
+-- ---- the own texts of rules
+
+-- each rule's own text is hours
+abbrev pub AreAllStrict : List HolidayRule → Type 0
+AreAllStrict [] = Unit {0}
+AreAllStrict (rule ∷ rules) = IsStrict rule.text.items × AreAllStrict rules
+
+-- the first fault of the first own text that is not
+abbrev pub IsRuleFault : List HolidayRule → HoursFault → Type 0
+IsRuleFault [] bad = ⊥
+IsRuleFault (rule ∷ rules) bad = IsFirstFault rule.text.items bad ⊎ (IsStrict rule.text.items × IsRuleFault rules bad)
+
+-- ---- rules with holidays
+
+-- A rule with another link and, if there are holidays, with their days.
+abbrev pub WithAny : List Listed → Bool → Link → List Selector → Rule → Rule → Type 0
+WithAny [] led by days plain made = made ≡ record plain { link = by }
+WithAny (x ∷ xs) led by days plain made = IsWithDays by led days plain made
+
+-- It has the link of the text's rule, and its holidays.
+abbrev pub HasHolidays : HolidayRule → List Selector → Rule → Rule → Type 0
+HasHolidays from days plain made = WithAny from.holidays.items from.is_led from.link days plain made
+
+-- each of the rules, in their order, has them
+abbrev pub AreWithHolidays : HolidayRule → List Selector → List Rule → List Rule → Type 0
+AreWithHolidays from days [] [] = Unit {0}
+AreWithHolidays from days (p ∷ plain) (m ∷ made) = HasHolidays from days p m × AreWithHolidays from days plain made
+AreWithHolidays from days plain made = ⊥
+
+-- What a rule of the text stands for: the rule of its own text (there is one) with its link and, on the days that the table has
+-- for them in the years, its holidays.
+pub record IsHolidayRule (table : Holidays) (years : KnownYears) (from : HolidayRule) (made : List Rule) : Type 0 where
+  pub plain : Hours
+  pub days : List Selector
+  pub stands : StandsFor from.text.items plain
+  pub listed : AreDaysOf table years from.holidays.items days
+  pub are : AreWithHolidays from days plain.rules.items made
+
+-- what the rules stand for, one after another
+abbrev pub AreHolidayRules : Holidays → KnownYears → List HolidayRule → List Rule → Type 0
+AreHolidayRules table years [] made = made ≡ []
+AreHolidayRules table years (from ∷ more) made =
+    (own others : List Rule) × IsHolidayRule table years from own × AreHolidayRules table years more others
+    × (made ≡ own ++ others)
+
+-- ---- what the table does not say
+
+-- the first of a rule's holidays of which the table does not say all in the years, where it stands, and the first day for it
+abbrev pub IsUncoveredIn : Holidays → KnownYears → HolidayRule → ℕ → ℤ → Type 0
+IsUncoveredIn table years from place day =
+    (k : ℕ) × IsUncovered table.rows.items years from.holidays.items k day × (place ≡ get_or from.places.items k 0)
+
+-- the first of the holidays of some rules
+abbrev pub IsHolidayUncovered : Holidays → KnownYears → List HolidayRule → ℕ → ℤ → Type 0
+IsHolidayUncovered table years [] place day = ⊥
+IsHolidayUncovered table years (from ∷ more) place day =
+    IsUncoveredIn table years from place day
+    ⊎ (CoversAll table.rows.items years from.holidays.items × IsHolidayUncovered table years more place day)
+
+-- ---- as the code computes it
+
+-- a fault of holidays, as it is told at one of these places
+abbrev pub IsStopAt : ListedFault → List ℕ → RulesStop → Type 0
+IsStopAt (listed_fault.Uncovered found) places why = why ≡ stop.Uncovered (get_or places found.place 0) found.day
+IsStopAt (listed_fault.TooMany needed) places why = ⊥
+IsStopAt listed_fault.NoMemory places why = why ≡ stop.NoMemory
+
+-- why a rule of the text has no rule of hours; and why rules have none
+abbrev pub IsRuleStop : Holidays → KnownYears → HolidayRule → RulesStop → Type 0
+IsRuleStop table years from (stop.Uncovered place day) = IsUncoveredIn table years from place day
+IsRuleStop table years from stop.NoMemory = Unit {0}
+
+abbrev pub IsRulesStop : Holidays → KnownYears → List HolidayRule → RulesStop → Type 0
+IsRulesStop table years rules (stop.Uncovered place day) = IsHolidayUncovered table years rules place day
+IsRulesStop table years rules stop.NoMemory = Unit {0}

@@ -1,0 +1,136 @@
+//! What the holidays of a text need and is not given: a table, and years.
+
+ghost use Rattle.std.specs.Prelude.{◌≡◌, drop};
+ghost use Rattle.gtd_hours_days.specs.Listed.{kind_of};
+ghost use Rattle.gtd_hours_known.specs.Given.{covers, covers_some, has_table, is_kind, missing, no_years, none_given};
+ghost use Rattle.gtd_hours_known.specs.Given.{not_given};
+ghost use Rattle.gtd_hours_known.specs.Rules.{first_place};
+
+use crate::fault::KnownFault;
+use crate::known::Known;
+use gtd_hours_days::Listed;
+use gtd_hours_holiday_rules::HolidayRule;
+use gtd_hours_holidays::{HolidayKind, HolidayRow, Holidays, KnownYears};
+
+/// The first of some places.
+pub(crate) fn first_place(places: &[usize]) -> usize
+    ensures { result ≡ first_place places.now }
+{
+    match places.split_first() {
+        Some((place, _)) => *place,
+        None => 0,
+    }
+}
+
+// The places behind the first.
+fn later_places(places: &[usize]) -> &[usize]
+    ensures { result.now ≡ drop 1 places.now }
+{
+    match places.split_first() {
+        Some((_, later)) => later,
+        None => places,
+    }
+}
+
+// Whether two kinds are the same.
+fn is_kind(one: HolidayKind, other: HolidayKind) -> bool
+    ensures { result ≡ is_kind one other }
+{
+    match one {
+        HolidayKind::Public => match other {
+            HolidayKind::Public => true,
+            HolidayKind::School => false,
+        },
+        HolidayKind::School => match other {
+            HolidayKind::Public => false,
+            HolidayKind::School => true,
+        },
+    }
+}
+
+// Whether some row says that all holidays of a kind on its days are in the table.
+fn covers(rows: &[HolidayRow], kind: HolidayKind) -> bool
+    ensures { result ≡ covers rows.now kind }
+{
+    let mut rest = rows;
+    while let Some((row, more)) = rest.split_first() {
+        if row.covers && is_kind(row.kind, kind) {
+            return true;
+        }
+        rest = more;
+    }
+    false
+}
+
+// Whether it does so for the kind of a holiday, if it has one.
+fn covers_kind_of(rows: &[HolidayRow], holiday: Listed) -> bool
+    ensures { result ≡ covers_some rows.now (kind_of holiday) }
+{
+    match holiday {
+        Listed::Public { offset: _ } => covers(rows, HolidayKind::Public),
+        Listed::School => covers(rows, HolidayKind::School),
+        Listed::Easter { offset: _ } => true,
+    }
+}
+
+// Whether there is a table, and it is one of such holidays.
+fn has_table(table: &Option<Holidays>, holiday: Listed) -> bool
+    ensures { result ≡ has_table table.now holiday }
+{
+    match table {
+        None => false,
+        Some(table) => covers_kind_of(table.rows.as_slice(), holiday),
+    }
+}
+
+// A fault at a place, if no years are given.
+fn no_years(years: Option<KnownYears>, place: usize) -> Option<KnownFault>
+    ensures { result ≡ no_years years place }
+{
+    match years {
+        None => Some(KnownFault::Years { place }),
+        Some(_) => None,
+    }
+}
+
+// What is not given for a holiday that stands at a place.
+fn not_given(known: &Known, holiday: Listed, place: usize) -> Option<KnownFault>
+    ensures { result ≡ not_given known.now holiday place }
+{
+    if has_table(&known.holidays, holiday) {
+        no_years(known.years, place)
+    } else {
+        Some(KnownFault::Holidays { place })
+    }
+}
+
+// What is not given for the first of some holidays at these places for which something is not.
+fn none_given(known: &Known, holidays: &[Listed], places: &[usize]) -> Option<KnownFault>
+    ensures { result ≡ none_given known.now holidays.now places.now }
+{
+    let mut rest = holidays;
+    let mut at = places;
+    while let Some((holiday, more)) = rest.split_first() {
+        if let Some(bad) = not_given(known, *holiday, first_place(at)) {
+            return Some(bad);
+        }
+        rest = more;
+        at = later_places(at);
+    }
+    None
+}
+
+/// What is not given for the first holiday of some rules for which something is not: a table of such holidays, or else the
+/// years.
+pub(crate) fn missing(known: &Known, rules: &[HolidayRule]) -> Option<KnownFault>
+    ensures { result ≡ missing known.now rules.now }
+{
+    let mut rest = rules;
+    while let Some((rule, more)) = rest.split_first() {
+        if let Some(bad) = none_given(known, rule.holidays.as_slice(), rule.places.as_slice()) {
+            return Some(bad);
+        }
+        rest = more;
+    }
+    None
+}

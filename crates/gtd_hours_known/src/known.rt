@@ -1,0 +1,25 @@
+//! What is known of holidays, and the hours of a text that are read with it.
+
+use gtd_hours::Hours;
+use gtd_hours_holidays::{Holidays, KnownYears};
+use gtd_hours_loose::StrictForm;
+
+/// What is known of holidays.
+#[derive(Drop)]
+pub struct Known {
+    /// The table of holidays, if there is one.
+    pub holidays: Option<Holidays>,
+    /// The years in which holidays are known, if they are given.
+    pub years: Option<KnownYears>,
+}
+
+/// The hours of a text.
+#[derive(Drop)]
+pub struct KnownHours {
+    /// What they are.
+    pub hours: Hours,
+    /// The strict form of the text, if it was read by that.
+    pub form: Option<StrictForm>,
+    /// The number of bytes before the first holiday, if the text has one.
+    pub first_holiday: Option<usize>,
+}

@@ -1,0 +1,24 @@
+//! Opening hours of OpenStreetMap with public and school holidays, which a table has for some years.
+//!
+//! A text is read by its rules: those of the plain hours that are left without holidays, each with its own holidays, whose days
+//! are listed as dates.
+#![tactic(auto)]
+
+mod checks;
+mod dates;
+mod fault;
+mod given;
+mod joining;
+mod known;
+pub mod laws;
+mod manner;
+mod reader;
+mod rules;
+mod selectors;
+
+pub use fault::{KnownFault, KnownReadFault};
+pub use joining::with_days;
+pub use known::{Known, KnownHours};
+pub use manner::read_known_hours_in;
+pub use reader::read_known_hours;
+pub use selectors::listed_selectors;

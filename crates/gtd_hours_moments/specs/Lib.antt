@@ -1,0 +1,14 @@
+pub mod Checked
+pub mod Forms
+pub mod Meaning
+pub mod Minutes
+pub mod Needs
+pub mod Options
+pub mod Parts
+pub mod Places
+pub mod Plain
+pub mod Ranges
+pub mod Reading
+pub mod Steps
+pub mod Told
+pub mod Tokens

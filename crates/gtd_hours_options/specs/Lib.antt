@@ -1,0 +1,5 @@
+pub mod Told
+pub mod Misfits
+pub mod First
+pub mod Reading
+pub mod Manners

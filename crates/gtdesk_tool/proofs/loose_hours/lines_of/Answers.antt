@@ -1,7 +1,0 @@
--- A text that is read, but of which no domain is found, is refused for that.
-use Rattle.std.proofs.Common.{inr}
-use Rattle.gtdesk_tool.proofs.loose_hours.lines_of.Goals as goal
-
-pub returns-in-Err-domain_line-clause-refused : goal.returns-in-Err-domain_line-clause-refused
-returns-in-Err-domain_line-clause-refused c =
-    inr (c.in-Ok.read, c.in-Ok.ensures.read, c.in-Err-domain_line.ensures.refused)
