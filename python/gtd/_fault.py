@@ -81,7 +81,9 @@ def read_fault(line: str) -> Optional[Fault]:
     """The fault that a line of the program's standard error reports, or None if it reports none."""
     found = _HOURS.fullmatch(line)
     if found:
-        return Fault(f"hours {found['kind']}", place=int(found["place"]))
+        # No table of holidays is handed on from here, so that a holiday is refused as the library refuses it.
+        kind = found["kind"].replace("Holidays", "Unsupported")
+        return Fault(f"hours {kind}", place=int(found["place"]))
     of_two = _OF_TWO.fullmatch(line)
     if of_two:
         return Fault(of_two["kind"], place=int(of_two["place"]), note=of_two["side"].lower())
