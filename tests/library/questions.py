@@ -429,7 +429,7 @@ def main():
         sys.exit("usage: tests/library/questions.py [--random] QUESTIONS ANSWERS COUNT [SEED]")
     count, seed = int(words[2]), words[3] if len(words) > 3 else "1"
     examples = [path for path in sorted(glob.glob(os.path.join(TOP, "examples", "*.csv")))
-                if not is_random and not re.search(r"\.(schedule|hours)\.csv$", path)]
+                if not is_random and not re.search(r"(\.schedule|\.hours|/holidays)\.csv$", path)]
     with ThreadPoolExecutor(os.cpu_count()) as pool:
         cases = [names_case(), *pool.map(example_case, examples)]
         cases += pool.map(domain_case, (f"domain {seed} {number}" for number in range(count)))
