@@ -152,7 +152,7 @@ def main():
         sys.exit("usage: tests/sql/cases.py CASES COUNT [SEED]")
     count, seed = int(sys.argv[2]), sys.argv[3] if len(sys.argv) > 3 else "1"
     examples = [path for path in sorted(glob.glob(os.path.join(os.path.dirname(TESTS), "examples", "*.csv")))
-                if not re.search(r"\.(schedule|hours)\.csv$", path)]
+                if not re.search(r"(\.schedule|\.hours|/holidays)\.csv$", path)]
     jobs = [("example", path) for path in examples]
     jobs += [("domain", f"domain {seed} {number}") for number in range(count)]
     jobs += [(kind, f"{kind} {seed} {number}") for kind in ("file", "pair", "hours") for number in range(count // 4)]
