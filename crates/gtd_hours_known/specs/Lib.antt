@@ -2,6 +2,8 @@ pub mod HolidayDays
 pub mod Joining
 pub mod Rules
 pub mod Given
+pub mod Needs
+pub mod Marks
 pub mod Faults
 pub mod Reading
 pub mod Manners

@@ -14,11 +14,13 @@ ghost use Rattle.gtd_hours_days.specs.declared.listed.Listed.{Listed};
 ghost use Rattle.gtd_hours_holidays.specs.declared.holidays.Holidays.{Holidays};
 ghost use Rattle.gtd_hours_holidays.specs.declared.known_years.KnownYears.{KnownYears};
 ghost use Rattle.gtd_hours_loose.specs.Manners.{IsReadingIn};
+ghost use Rattle.gtd_hours_loose.specs.Reading.{IsStrict};
 ghost use Rattle.gtd_hours_loose.specs.declared.manner.Manner.{Manner};
 ghost use Rattle.gtd_hours_loose.specs.declared.reader.LooseHours.{LooseHours};
 ghost use Rattle.gtd_hours_known.specs.HolidayDays.{AreDaysOf};
 ghost use Rattle.gtd_hours_known.specs.Joining.{IsWithDays, has_weekdays, names_weekdays};
 ghost use Rattle.gtd_hours_known.specs.Manners.{IsKnownReadingIn};
+ghost use Rattle.gtd_hours_known.specs.Marks.{HasMarks};
 ghost use Rattle.gtd_hours_known.specs.declared.known.Known.{Known};
 ghost use Rattle.gtd_hours_known.specs.declared.known.KnownHours.{KnownHours};
 
@@ -41,12 +43,14 @@ pub fn days_of_holidays()
         × (SomeHolds weekdays.selectors.items n f ⊎ SomeListed table.rows.items years listed n)) }
 {}
 
-/// Hours that are read of a text without holidays are read so whatever is known of them, and no other hours are read without a
-/// first holiday.
+/// Hours that are read of a text without holidays, comments, unknown and fallback rules are read so whatever is known of
+/// holidays. Of plain hours no others are read. Hours without a first holiday are read so whatever is known.
 pub fn plain_readings()
-    ensures plain { (manner : Manner) (known : Known) (text : List ℕ) (read : LooseHours) → IsReadingIn manner text read
-        → IsKnownReadingIn manner known text (record { hours = read.hours; form = read.form; first_holiday = None }) }
-    ensures only { (manner : Manner) (known : Known) (text : List ℕ) (read : KnownHours)
-        → IsKnownReadingIn manner known text read → read.first_holiday ≡ None
-        → IsReadingIn manner text (record { hours = read.hours; form = read.form }) }
+    ensures plain { (manner : Manner) (known : Known) (text : List ℕ) (read : LooseHours) (made : KnownHours)
+        → IsReadingIn manner text read → made.hours ≡ read.hours → made.form ≡ read.form → HasMarks [] made
+        → IsKnownReadingIn manner known text made }
+    ensures only { (manner : Manner) (known : Known) (text : List ℕ) (read : KnownHours) → IsStrict text
+        → IsKnownReadingIn manner known text read → IsReadingIn manner text (record { hours = read.hours; form = read.form }) }
+    ensures needless { (manner : Manner) (known other : Known) (text : List ℕ) (read : KnownHours)
+        → IsKnownReadingIn manner known text read → read.first_holiday ≡ None → IsKnownReadingIn manner other text read }
 {}

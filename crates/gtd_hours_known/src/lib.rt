@@ -1,6 +1,7 @@
-//! Opening hours of OpenStreetMap with public and school holidays, which a table has for some years.
+//! Opening hours of OpenStreetMap with public and school holidays, which a table has for some years, and with comments, unknown
+//! and fallback rules.
 //!
-//! A text is read by its rules: those of the plain hours that are left without holidays, each with its own holidays, whose days
+//! A text is read by its rules: those of the plain hours that are left without all that, each with its own holidays, whose days
 //! are listed as dates.
 #![tactic(auto)]
 
@@ -12,6 +13,9 @@ mod joining;
 mod known;
 pub mod laws;
 mod manner;
+mod marks;
+mod needs;
+mod opening;
 mod reader;
 mod rules;
 mod selectors;
