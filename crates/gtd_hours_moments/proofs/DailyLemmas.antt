@@ -23,11 +23,11 @@ use Rattle.gtd_hours_moments.specs.Ranges.{ranges_by}
 
 -- ---- none of two
 
-none_left : (a b : Option Need) → option_or a b ≡ None → a ≡ None
+pub none_left : (a b : Option Need) → option_or a b ≡ None → a ≡ None
 none_left None b e = refl
 none_left (Some x) b e = absurd cc
 
-none_right : (a b : Option Need) → option_or a b ≡ None → b ≡ None
+pub none_right : (a b : Option Need) → option_or a b ≡ None → b ≡ None
 none_right None b e = e
 none_right (Some x) b e = absurd cc
 
@@ -180,7 +180,7 @@ daily_by form clocks false is p s l o day =
     (step_given form.is_open clocks.open_end form.step clocks.points form.sign is s)
     l
 
-daily : (form : TimeForm) (clocks : Clocks) → form_need form clocks ≡ None → form_too_long form clocks ≡ None
+pub daily : (form : TimeForm) (clocks : Clocks) → form_need form clocks ≡ None → form_too_long form clocks ≡ None
     → IsDaily clocks form
 daily form clocks n t day =
     let point = point_need form clocks in
