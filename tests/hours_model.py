@@ -178,13 +178,20 @@ class Reader:
             kinds["weeks"] = self.listed(self.weeks, lambda: self.peek(1) == "number")
         if kinds:
             self.goes(":")
-        if self.peek() == "weekday":
-            kinds["weekdays"] = self.listed(self.weekdays, lambda: self.peek(1) == "weekday")
-        if self.peek() == "time":
-            times = self.listed(self.time_range, lambda: self.peek(1) == "time")
+        self.days(kinds)
+        if self.is_moment(0):
+            times = self.listed(self.time_range, lambda: self.is_moment(1))
         if not kinds and not times:
             self.refuse()
         return kinds, times
+
+    def days(self, kinds):
+        if self.peek() == "weekday":
+            kinds["weekdays"] = self.listed(self.weekdays, lambda: self.peek(1) == "weekday")
+
+    def is_moment(self, ahead):
+        """Whether a range of times begins."""
+        return self.peek(ahead) == "time"
 
     def listed(self, item, is_next):
         """A list. A comma goes on with it if the next token can."""

@@ -228,6 +228,17 @@ def changes(opened):
     return [at for at in range(1, len(opened)) if opened[at] != opened[at - 1]]
 
 
+def check_seconds(chance, text, rules, expression, first):
+    """Rules and a domain agree around changes of the rules, and at drawn seconds, of some days from a date on."""
+    base = 1440 * (first - hours_model.EPOCH).days
+    found = changes(hours_model.open_minutes(rules, first, DAYS))
+    seconds = [60 * (base + at) + by for at in chance.sample(found, min(CHANGES, len(found))) for by in (-1, 0)]
+    seconds += [60 * base + chance.randrange(86400 * DAYS) for _ in range(SAMPLES)]
+    for second in seconds:
+        same = hours_model.is_open(rules, second) == model.contains(expression, second)
+        expect(same, f"{text}: the domain differs at second {second}")
+
+
 def check_random(maker):
     """The domain of a random text, or that it has too many; and the faults of damaged texts. Answers whether it has a domain."""
     text = maker.text()
@@ -241,13 +252,7 @@ def check_random(maker):
     expect(fault is None, f"{text}: {fault}")
     rules, expression = hours_model.read(text.encode()), model.read(domain.encode())
     first = datetime.date(maker.randint(2021, 2028), maker.randint(1, 12), maker.randint(1, 28))
-    base = 1440 * (first - hours_model.EPOCH).days
-    found = changes(hours_model.open_minutes(rules, first, DAYS))
-    seconds = [60 * (base + at) + by for at in maker.sample(found, min(CHANGES, len(found))) for by in (-1, 0)]
-    seconds += [60 * base + maker.randrange(86400 * DAYS) for _ in range(SAMPLES)]
-    for second in seconds:
-        same = hours_model.is_open(rules, second) == model.contains(expression, second)
-        expect(same, f"{text}: {domain} differs at second {second}")
+    check_seconds(maker, text, rules, expression, first)
     check_back(text, domain)
     return True
 

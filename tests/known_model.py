@@ -59,32 +59,6 @@ class Reader(hours_model.Reader):
             raise Fault("Unexpected", self.found[self.at].place)
         super().refuse()
 
-    def rule(self, adds):
-        kinds, times = {}, []
-        if self.peek() == "number" and self.text() == "24":
-            self.always()
-        elif self.peek() != "modifier":
-            kinds, times = self.selectors()
-        opens = hours_model.OPENS[self.take("modifier")] if self.peek() == "modifier" else True
-        return hours_model.Rule(adds, opens, kinds, times or [(0, hours_model.DAY)])
-
-    def selectors(self):
-        kinds, times = {}, []
-        if self.peek() == "number" and not self.is_dated():
-            kinds["years"] = self.listed(self.years, lambda: self.is_year(1))
-        if self.peek() in ("month", "number"):
-            kinds["month days"] = self.month_days()
-        if self.goes("week"):
-            kinds["weeks"] = self.listed(self.weeks, lambda: self.peek(1) == "number")
-        if kinds:
-            self.goes(":")
-        self.days(kinds)
-        if self.peek() == "time":
-            times = self.listed(self.time_range, lambda: self.peek(1) == "time")
-        if not kinds and not times:
-            self.refuse()
-        return kinds, times
-
     def days(self, kinds):
         """Holidays, which restrict weekdays directly behind them; or one list of holidays and weekdays."""
         items = self.listed(self.day_item, lambda: self.peek(1) in ("weekday", "holiday")) if self.peek() in ("weekday", "holiday") else []

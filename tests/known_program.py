@@ -22,7 +22,7 @@ import hours_model
 import known_model
 import model
 from hours import Failure, expect
-from hours_program import NO_DOMAIN, PROGRAM, changes, line_of, told
+from hours_program import NO_DOMAIN, PROGRAM, check_seconds, line_of, told
 
 TABLES = os.path.join(hours.TOP, "holidays")
 WARNING = f"{NO_DOMAIN}warning "
@@ -31,7 +31,6 @@ FRONTS = ["", "", "", "Dec", "Dec 24,25", "Jan-Mar,2025 May 1", "2025", "2025,20
 TIMES = ["", "10:00-12:00", "22:00-04:00", "08:00-09:00,22:00-02:00"]
 WORDS = DAYS + ["SH +1 day", "PH +0 days", "PH +Mo", "PH +1", ",", ";", ":", "-", "+", "24/7", "[", "]", "1", "off", "open", "easter"]
 WORDS += ["Dec", "2025", "10:00-12:00", ",PH", ",SH", "PH,SH", "Mo,"]
-SHOWN_DAYS, CHANGES, SAMPLES = 60, 40, 40
 
 
 def run(text, table, years):
@@ -142,13 +141,7 @@ def check_drawn(chance, folder):
         return False
     rules, expression = known_model.read(text.encode(), rows, pair_of(years)), model.read(domain.encode())
     first = datetime.date(int(years[:4]) + chance.choice((-1, 0, 0, 1, 3)), chance.randint(1, 12), chance.randint(1, 28))
-    base = 1440 * (first - hours_model.EPOCH).days
-    found = changes(hours_model.open_minutes(rules, first, SHOWN_DAYS))
-    seconds = [60 * (base + at) + by for at in chance.sample(found, min(CHANGES, len(found))) for by in (-1, 0)]
-    seconds += [60 * base + chance.randrange(86400 * SHOWN_DAYS) for _ in range(SAMPLES)]
-    for second in seconds:
-        same = hours_model.is_open(rules, second) == model.contains(expression, second)
-        expect(same, f"{text} {years}: {domain} differs at second {second}")
+    check_seconds(chance, f"{text} {years}", rules, expression, first)
     return True
 
 

@@ -3,17 +3,14 @@
 selectors. The program is holidays/main.rattle, built without its proofs.
 
 With an argument, that many are drawn."""
-import os
 import random
 import re
-import shutil
-import subprocess
 import sys
-import tempfile
 
 import holidays_model as model
+import trial
 
-TOP = os.path.dirname(model.HERE)
+CRATES = "gtd_core gtd_text gtd_hours_leaves gtd_hours_holidays gtd_hours_days"
 MOST_BASIC_DOMAINS = 128
 OFFSETS = (-366, -31, -2, -1, 0, 1, 2, 6, 49, 365, 366)
 
@@ -76,26 +73,13 @@ def drawn(chance):
     return rows, first, last, [(name, 0 if name == "SH" else chance.choice(OFFSETS)) for name in names]
 
 
-def run(questions):
-    """What the program prints: questions that it answers otherwise, and how many it does not."""
-    with tempfile.TemporaryDirectory() as work:
-        shutil.copytree(f"{TOP}/crates", f"{work}/crates", ignore=shutil.ignore_patterns("out"))
-        shutil.copy(f"{TOP}/HANDLES", work)
-        crate = f"{work}/crates/listed_days"
-        os.makedirs(f"{crate}/src")
-        shutil.copy(f"{TOP}/tests/holidays/main.rattle", f"{crate}/src/main.rt")
-        with open(f"{TOP}/crates.txt") as source, open(f"{work}/crates.txt", "w") as copy:
-            copy.write(source.read() + "listed_days: gtd_core gtd_text gtd_hours_leaves gtd_hours_holidays gtd_hours_days\n")
-        return subprocess.run(["rt", "try"], cwd=crate, input="".join(questions), capture_output=True, text=True).stdout
-
-
 def main():
     chance = random.Random(20)
     asked = list(worked())
     for _ in range(int(sys.argv[1]) if sys.argv[1:] else 40):
         case = drawn(chance)
         asked.append((case, answer(*case)))
-    printed = run([question(*case, wanted) for case, wanted in asked])
+    printed = trial.printed("holidays", CRATES, "".join(question(*case, wanted) for case, wanted in asked))
     found = re.search("^([0-9]+) right$", printed, re.M)
     right = int(found[1]) if found else 0
     if right < len(asked):

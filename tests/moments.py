@@ -5,19 +5,15 @@ model and the domain beside them are the same minutes of four years. The program
 
 Usage: tests/moments.py [COUNT [SEED]]    (so many texts are drawn)
 """
-import os
 import random
-import shutil
-import subprocess
 import sys
-import tempfile
 
 import hours
 import hours_model
 import model
 import moments_model
+import trial
 
-TOP = os.path.dirname(hours.TOP)
 NAMES = ("open end", "points", "sunrise", "sunset", "dawn", "dusk")
 CRATES = "gtd_hours gtd_hours_known gtd_hours_moments gtd_hours_options"
 CLOCKS = ("08:00", "12:00", "22:00", "00:00", "24:00", "26:00", "sunrise", "sunset", "dawn", "(sunset+01:00)", "(dawn-00:30)",
@@ -80,16 +76,7 @@ def drawn_options(chance):
 def run(questions):
     """What the program prints, a line for each question."""
     lines = "".join(" ".join(str(options.get(name, "-")) for name in NAMES) + f"\t{text}\n" for text, options in questions)
-    with tempfile.TemporaryDirectory() as work:
-        shutil.copytree(f"{TOP}/crates", f"{work}/crates", ignore=shutil.ignore_patterns("out"))
-        shutil.copy(f"{TOP}/HANDLES", work)
-        crate = f"{work}/crates/moments"
-        os.makedirs(f"{crate}/src")
-        shutil.copy(f"{TOP}/tests/moments/main.rattle", f"{crate}/src/main.rt")
-        with open(f"{TOP}/crates.txt") as source, open(f"{work}/crates.txt", "w") as copy:
-            copy.write(source.read() + f"moments: {CRATES}\n")
-        done = subprocess.run(["rt", "try"], cwd=crate, input=lines, capture_output=True, text=True)
-        return done.stdout.splitlines()
+    return trial.printed("moments", CRATES, lines).splitlines()
 
 
 def is_same_domain(row):

@@ -59,24 +59,6 @@ class Reader(hours_model.Reader):
     def is_moment(self, ahead):
         return self.peek(ahead) in ("time", "event") or self.peek(ahead) == "(" and self.peek(ahead + 1) == "event"
 
-    def selectors(self):
-        kinds, times = {}, []
-        if self.peek() == "number" and not self.is_dated():
-            kinds["years"] = self.listed(self.years, lambda: self.is_year(1))
-        if self.peek() in ("month", "number"):
-            kinds["month days"] = self.month_days()
-        if self.goes("week"):
-            kinds["weeks"] = self.listed(self.weeks, lambda: self.peek(1) == "number")
-        if kinds:
-            self.goes(":")
-        if self.peek() == "weekday":
-            kinds["weekdays"] = self.listed(self.weekdays, lambda: self.peek(1) == "weekday")
-        if self.is_moment(0):
-            times = self.listed(self.times, lambda: self.is_moment(1))
-        if not kinds and not times:
-            self.refuse()
-        return kinds, times
-
     def moment(self, most):
         place = self.found[self.at].place if self.at < len(self.found) else 0
         if self.peek() == "event":
@@ -93,7 +75,7 @@ class Reader(hours_model.Reader):
         self.take(")")
         return Moment(event, sign * minutes, place)
 
-    def times(self):
+    def time_range(self):
         if not self.is_moment(0):
             self.refuse()
         begin = self.moment(DAY - 1)
