@@ -55,9 +55,12 @@ class Means(NamedTuple):
 
 
 class Options(NamedTuple):
-    """The table of public holidays with its years, or None; and whether loose forms are refused."""
+    """The table of public holidays with its years, or None; whether loose forms are refused; whether those of hours are; and
+    whether short names of weekdays are German where they may be."""
     holidays: tuple
     strict: bool
+    strict_hours: bool = False
+    german: bool = False
 
 
 class Term(NamedTuple):
@@ -156,7 +159,7 @@ def ends_as_written(printed, data):
 
 def read_hours(text, place, options, warnings):
     """Hours as a term. A text that needs an option is at fault at the first place that does."""
-    strict = text
+    strict, is_strict = text, options.strict or options.strict_hours
     for year, first, until, last in re.findall(r"([0-9]{4}) ([A-Z][a-z]{2})-([0-9]{4}) ([A-Z][a-z]{2})(?! *[0-9])", text):
         month = hours_model.MONTHS.index(last) + 1
         day = hours_model.calendar.monthrange(int(until), month)[1]
@@ -172,7 +175,7 @@ def read_hours(text, place, options, warnings):
         raise Fault("Hours Point", place + point.start())
     try:
         data = (strict[:holiday.start()] if holiday else strict).encode("latin-1")
-        rules, loose = (hours_model.read(data), []) if options.strict else loose_model.read(data)
+        rules, loose = (hours_model.read(data), []) if is_strict else loose_model.read(data, options.german)
     except hours_model.Fault as fault:
         raise Fault(f"Hours {fault.args[0]}", place + fault.args[1]) from None
     warnings += [f"{kind} at {place + at}: {form}" for kind, at, form in loose]
@@ -437,11 +440,12 @@ def put(data, means, options):
 
 def read_options(text):
     words = text.split()
+    german = "--day-names" in words
     if "--holidays" not in words:
-        return Options(None, "--strict" in words)
+        return Options(None, "--strict" in words, german=german)
     name, years = words[words.index("--holidays") + 1], words[words.index("--years") + 1]
     first, last = map(int, years.split("-"))
-    return Options((holidays_model.tables()[name.removesuffix(".csv")], first, last), "--strict" in words)
+    return Options((holidays_model.tables()[name.removesuffix(".csv")], first, last), "--strict" in words, german=german)
 
 
 def moments(text):
@@ -494,7 +498,8 @@ def check_file(row, means):
 
 def drawn(chance, means):
     """Tags of one element."""
-    hours = ("Mo-Fr 07:00-09:00", "22:00-06:00", "Sa,Su", "Dec 24,25", "08:00-18:00,20:00-21:00", "Fr-Mo 23:00-01:30", "24/7")
+    hours = ("Mo-Fr 07:00-09:00", "22:00-06:00", "Sa,Su", "Dec 24,25", "08:00-18:00,20:00-21:00", "Fr-Mo 23:00-01:30", "24/7",
+             "mo-fr 7:00-9:00", "Sa 9h-13h30", "Monday – Friday 0800-1745".encode().decode("latin-1"))
     words = ["weight>7.5", "weight > 03.50 t", "hazmat", "residents", "length>12m"]
 
     def part(names):

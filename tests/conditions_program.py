@@ -1,10 +1,11 @@
 #!/usr/bin/env python3
 """`gtdesk conditions` against the plain model of tests/conditional_model.py.
 
-First come the worked rows and files of conditional/, its tables of means at fault, and the hundred values of examples/conditions;
-then random files of tags, of which some rows are damaged. The record file is that of the model, byte for byte; or each fault is
-listed with its row, line and place, and none is missing. The program reads hours as they are strictly written, so here the model
-does, too. Run it after `rt ci`, which builds the program.
+First come the worked rows and files of conditional/, its tables of means at fault, and the hundred values of
+examples/conditions; then random files of tags, of which some rows are damaged, read strictly or loosely. The record file is
+that of the model, byte for byte, with the warnings of its hours by the models of loose texts and of hidden hours; or each fault
+is listed with its row, line and place, and none is missing. Here `--strict` is of hours alone. Run it after `rt ci`, which
+builds the program.
 
 Usage: tests/conditions_program.py [COUNT [SEED]]
 """
@@ -18,34 +19,42 @@ import sys
 import tempfile
 
 import conditional_model
+import hidden_model
 import hours_model
+import loose_model
 from checks import Checks
 
 HERE = os.path.dirname(os.path.abspath(__file__))
 PROGRAM = os.environ.get("GTDESK", os.path.join(HERE, "..", "crates", "gtdesk", "out", "gtdesk"))
-PLAIN = conditional_model.Options(None, False)
 # What damages a value, a key or an element.
 BYTES = "()@;,:\"0x><= \u00e9"
 
 
-def read_hours(text, place, _options, _warnings):
-    """Hours as a term, if they are strictly written."""
+def read_hours(text, place, options, warnings):
+    """Hours as a term, with the warnings of them."""
+    given = text.encode("latin-1")
     try:
-        rules = hours_model.read(text.encode("latin-1"))
+        rules = hours_model.read(given) if options.strict_hours else loose_model.read(given, options.german)[0]
     except hours_model.Fault as fault:
         raise conditional_model.Fault(f"Hours {fault.args[0]}", place + fault.args[1]) from None
+    for kind, at, form in hidden_model.warnings(given, options.german):
+        warnings.append(f"warning Hours {kind} at {place + at}" + (f": {form}" if form else ""))
     return conditional_model.Term(None, rules, [], text)
 
 
 conditional_model.read_hours = read_hours
+# How hours are read, and the options of the command. All else of a value is read the same.
+LOOSE, STRICT, GERMAN = (conditional_model.Options(None, False, *how) for how in ((), (True, False), (False, True)))
+WORDS = {LOOSE: (), STRICT: ("--strict",), GERMAN: ("--day-names", "de")}
 
 
-def run(tags, means, room):
-    """Status, output and lines of faults for the bytes of both files."""
+def run(tags, means, room, options=LOOSE):
+    """Status, output and lines of faults or warnings for the bytes of both files."""
     for name, data in (("tags.csv", tags), ("means.csv", means)):
         with open(os.path.join(room, name), "wb") as file:
             file.write(data)
-    done = subprocess.run([PROGRAM, "conditions", "tags.csv", "means.csv"], cwd=room, capture_output=True, check=False)
+    done = subprocess.run([PROGRAM, "conditions", *WORDS[options], "tags.csv", "means.csv"], cwd=room, capture_output=True,
+                          check=False)
     return done.returncode, done.stdout.decode(), done.stderr.decode("latin-1").splitlines()
 
 
@@ -56,7 +65,7 @@ def heads(lines, name):
 
 
 def numbered(faults):
-    """The same of faults of the model, in a file whose rows have one line each, with no empty lines between them."""
+    """The same of faults or warnings of the model, in a file whose rows have one line each, with no empty lines between them."""
     lines = []
     for fault in faults:
         row = re.match(r"row ([0-9]+)", fault)
@@ -64,19 +73,24 @@ def numbered(faults):
     return lines
 
 
-def compare(check, data, means, room):
+def of_hours(warnings):
+    """Those of hours alone: of comparisons, `and` and a `;` at the end the program does not warn."""
+    return [warning for warning in warnings if ": warning Hours " in warning]
+
+
+def compare(check, data, means, room, options=LOOSE):
     """Compares the program with the model on the bytes of a file of tags."""
     table, bytes_of_means = means
-    expected, _, faults = conditional_model.put(data, table, PLAIN)
-    status, output, errors = run(data, bytes_of_means, room)
+    expected, warnings, faults = conditional_model.put(data, table, options)
+    status, output, errors = run(data, bytes_of_means, room, options)
     told = heads(errors, "tags.csv")
-    if faults:
-        same_lines = b"\n\n" not in data and not re.search(rb'"[^",]*\n', data)
-        right = told == numbered(faults) if same_lines else [what for _, what in told] == faults
-        check(status == 1 and output == "" and right, f"{data}: {status} {told}, not {faults}")
-    else:
-        wanted = "".join(line + "\n" for line in expected)
-        check(status == 0 and errors == [] and output == wanted, f"{data}: {status} {errors} {output!r}, not {wanted!r}")
+    wanted = "" if faults else "".join(line + "\n" for line in expected)
+    lines = faults or of_hours(warnings)
+    same_lines = b"\n\n" not in data and not re.search(rb'"[^",]*\n', data)
+    right = told == numbered(lines) if same_lines else [what for _, what in told] == lines
+    alone = faults or len(errors) == len(told)
+    check(status == bool(faults) and output == wanted and right and alone,
+          f"{WORDS[options]} {data}: {status} {errors} {output!r}, not {lines} {wanted!r}")
 
 
 def written(rows):
@@ -124,14 +138,16 @@ def hundred(check, chance, room):
         tags = list(csv.reader(io.StringIO(data.decode())))[1:]
         status, output, errors = run(data, means, room)
         rows = list(csv.reader(io.StringIO(output)))[1:]
-        faults = []
+        faults, warned = [], []
         for number, (element, *tag) in enumerate(tags, 1):
-            says, _, _, wrong = conditional_model.read_tags([tuple(tag)], table, PLAIN)
+            says, _, warnings, wrong = conditional_model.read_tags([tuple(tag)], table, LOOSE)
             faults += [fault.replace("row 1", f"row {number}") for fault in wrong]
+            warned += [warning.replace("row 1", f"row {number}") for warning in of_hours(warnings)]
             own = [row[1:] for row in rows if row[0] == element]
             differ = wrong or conditional_model.check_rows(str(tag), says, table, own, chance, 150)
             check(name == "refused" or not differ, f"{tag}: {differ}")
-        check(status == int(name == "refused") and heads(errors, "tags.csv") == numbered(faults), f"{name}: {errors}")
+        told = heads(errors, "tags.csv")
+        check(status == int(name == "refused") and told == numbered(faults or warned), f"{name}: {errors}")
 
 
 def damaged(chance, text):
@@ -140,11 +156,17 @@ def damaged(chance, text):
     return text[:at] + chance.choice(["", chance.choice(BYTES)]) + text[at + chance.randrange(2):]
 
 
+def renamed(chance, value):
+    """A value, at times with a short name of a weekday that is read in two ways."""
+    return value.replace("Sa,Su", chance.choice(("Sa,Su", "Sa,Su", "Sa,So", "sa, so.")))
+
+
 def drawn(chance, table):
     """The rows of a random file of tags: of a few elements, in any order."""
     rows = []
     for element in chance.sample(range(1, 40), chance.randint(1, 5)):
-        rows += [[f"{element:0{chance.randint(1, 10)}}", key, value] for key, value in conditional_model.drawn(chance, table)]
+        rows += [[f"{element:0{chance.randint(1, 10)}}", key, renamed(chance, value)]
+                 for key, value in conditional_model.drawn(chance, table)]
     if chance.random() < 0.5:
         chance.shuffle(rows)
     if rows and chance.random() < 0.5:
@@ -170,7 +192,8 @@ def main():
         faulty_means(check, room)
         hundred(check, chance, room)
         for _ in range(count):
-            compare(check, written(drawn(chance, table)), (table, text.encode()), room)
+            options = chance.choice((LOOSE, LOOSE, GERMAN, STRICT))
+            compare(check, written(drawn(chance, table)), (table, text.encode()), room, options)
     return check.end()
 
 

@@ -27,7 +27,12 @@ class Uncovered(Exception):
 
 def tokens(text):
     """The tokens of a text, with holidays and their offsets as one token each."""
-    found, plain = [], hours_model.tokens(text)
+    return with_holidays(hours_model.tokens(text))
+
+
+def with_holidays(plain):
+    """The same of the tokens that plain hours have."""
+    found = []
     while plain:
         token, plain = plain[0], plain[1:]
         if token.text not in HOLIDAYS:

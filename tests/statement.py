@@ -26,7 +26,7 @@ CLAIMS = [
     ("what two files say differently", ("gtd_changes", "src/run.rt", "run_changes", ("headline",))),
     ("the list of faults", ("gtd_faults", "src/run.rt", "run_faults", ("listed",))),
     ("the picture of a year", ("gtd_picture", "src/run.rt", "run_picture", ("accepted", "refused", "unnamed"))),
-    ("the domain of opening hours", ("gtdesk_tool", "src/holiday_hours.rt", "print_hours", ("ran",))),
+    ("the domain of opening hours", ("gtdesk_tool", "src/text_hours.rt", "print_hours", ("ran",))),
     ("a file of opening hours", ("gtd_hours_file", "src/run.rt", "run_hours_records", ("stands",))),
 ]
 MOST_LINES, MOST_FILES, MOST_WITH_TYPES = 420, 21, 600

@@ -1,5 +1,6 @@
--- Lemmas on the values of tags, on the rows of elements, and on how many there are.
+-- Lemmas on the values of tags, on the rows of elements, on how many there are, and on warnings.
 pub mod Bounds
 pub mod ElementFacts
 pub mod FileFacts
 pub mod ValueFacts
+pub mod WarningFacts

@@ -5,14 +5,17 @@ ghost use Rattle.std.specs.List.Sorted.{IsNonDecreasingBy, IsPermutation};
 ghost use Rattle.gtd_conditional_elements.specs.Elements as spec;
 ghost use Rattle.gtd_conditional_elements.specs.Faults.{row_number};
 ghost use Rattle.gtd_conditional_elements.specs.File.{AreOfFile};
+ghost use Rattle.gtd_conditional_elements.specs.Warnings.{AreWarnings};
 ghost use Rattle.gtd_conditional_elements.specs.declared.fault.ConditionsFault.{ConditionsFault};
 
 use crate::fault::ConditionsFault;
 use crate::found::{ElementRow, Found, add_element};
 use crate::tag::ReadTag;
 use crate::values::read_values;
+use crate::warnings::warnings_of;
 use gtd_conditional_means::Means;
 use gtd_conditional_tags::{ElementItems, TagsFault, by_element, read_tags};
+use gtd_hours_loose::Manner;
 use std::alloc::{AllocError, Global};
 
 /// What a file of tags says. It is accepted exactly if it has no fault.
@@ -22,6 +25,8 @@ pub struct ElementsFile {
     pub rows: Vec<ElementRow>,
     /// All its faults, in the order of its rows.
     pub faults: Vec<ConditionsFault>,
+    /// A line for each warning of hours in its values, in their order, with the line of the file on which the row begins.
+    pub warnings: Vec<u8>,
 }
 
 // The rows of elements, and the faults of the others.
@@ -88,20 +93,34 @@ fn all_faults(
     Ok(sorted(faults))
 }
 
-/// The rows of a file of tags with these bytes, and all its faults, by a table of means.
+/// The rows of a file of tags with this path and these bytes, by a table of means, if hours are read in this manner; all its
+/// faults; and its warnings.
 ///
 /// Elements stand in the order in which they first come. Of each come the rows of access, and then those of one-way traffic. A
 /// row at fault, and one whose value is, says nothing of its element.
 ///
 /// Faults stand in the order of the rows. A row has one of those of `read_tags`; or the first fault of its value; or `TooMany`,
 /// if the hours of some part need more than 128 basic domains. Otherwise the last tag of an element has it, if some row of the
-/// element would need more. `AllocError` is answered only if memory was refused.
-pub fn read_elements(alloc: Global, means: &Means, bytes: &[u8]) -> Result<ElementsFile, AllocError>
-    ensures file { IfOk result (λ file. AreOfFile means.now.rows.items bytes.now file.rows.items file.faults.items) }
+/// element would need more.
+///
+/// Warnings are those of the tags that say something. `AllocError` is answered only if memory was refused.
+pub fn read_elements(
+    alloc: Global,
+    means: &Means,
+    manner: Manner,
+    path: &str,
+    bytes: &[u8],
+) -> Result<ElementsFile, AllocError>
+    ensures file { IfOk result (λ file.
+        AreOfFile manner means.now.rows.items bytes.now file.rows.items file.faults.items) }
+    ensures warned { IfOk result (λ file.
+        (found : AreOfFile manner means.now.rows.items bytes.now file.rows.items file.faults.items)
+        × AreWarnings path.now bytes.now found.sound file.warnings.items) }
     ensures few { IfOk result (λ file. length file.rows.items ≤ 25952256) }
 {
     let file = read_tags(alloc, means, bytes)?;
-    let values = read_values(alloc, means, file.tags.as_slice())?;
+    let values = read_values(alloc, means, manner, file.tags.as_slice())?;
+    let warnings = warnings_of(alloc, path, bytes, values.sound.as_slice())?;
     let groups = by_element(alloc, values.sound)?;
     let found = rows_of_elements(alloc, means, groups)?;
     let faults = all_faults(
@@ -113,5 +132,6 @@ pub fn read_elements(alloc: Global, means: &Means, bytes: &[u8]) -> Result<Eleme
     Ok(ElementsFile {
         rows: found.rows,
         faults,
+        warnings,
     })
 }

@@ -1,7 +1,7 @@
 //! The rows of the elements that a file of tags speaks of, or all faults of the file and of its values.
 //!
 //! [`read_elements`] reads a file by a table of means: what its rows say, what their values say, and which rows of a record file
-//! close an element exactly when its tags do.
+//! close an element exactly when its tags do; and what is to be warned of in its hours.
 #![tactic(auto)]
 
 pub use elements::{ElementsFile, read_elements};
@@ -16,3 +16,4 @@ mod found;
 pub mod laws;
 mod tag;
 mod values;
+mod warnings;

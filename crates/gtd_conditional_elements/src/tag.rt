@@ -8,6 +8,7 @@ use gtd_conditional_means::Means;
 use gtd_conditional_parts::{Subject, UnreadValue, Value, read_plain, read_value, subject_of};
 use gtd_conditional_steps::{Tag, needs_too_many};
 use gtd_conditional_tags::Tag as FileTag;
+use gtd_hours_loose::Manner;
 use std::alloc::Global;
 
 /// A tag of a way, with what its value says.
@@ -39,23 +40,33 @@ fn subject_at(means: &Means, mode: usize) -> Subject
 }
 
 // What the value of a tag says.
-fn read_said(alloc: Global, means: &Means, tag: &FileTag) -> Result<Value, UnreadValue>
-    ensures value { IfOk result (λ read. spec.IsValueOf means.now.rows.items tag.now read) }
-    ensures fault { IfErr result (λ why. spec.IsStopOf means.now.rows.items tag.now why) }
+fn read_said(
+    alloc: Global,
+    means: &Means,
+    manner: Manner,
+    tag: &FileTag,
+) -> Result<Value, UnreadValue>
+    ensures value { IfOk result (λ read. spec.IsValueOf manner means.now.rows.items tag.now read) }
+    ensures fault { IfErr result (λ why. spec.IsStopOf manner means.now.rows.items tag.now why) }
 {
     let subject = subject_at(means, tag.key.mode);
     if tag.key.conditional {
-        read_value(alloc, means, subject, tag.value.as_slice())
+        read_value(alloc, means, manner, subject, tag.value.as_slice())
     } else {
         read_plain(alloc, means, subject, tag.value.as_slice())
     }
 }
 
 /// A tag of a file with what its value says, or why it says nothing.
-pub(crate) fn read_tag(alloc: Global, means: &Means, tag: &FileTag) -> Result<ReadTag, TagStop>
-    ensures { spec.IsTagRead means.now.rows.items tag.now result }
+pub(crate) fn read_tag(
+    alloc: Global,
+    means: &Means,
+    manner: Manner,
+    tag: &FileTag,
+) -> Result<ReadTag, TagStop>
+    ensures { spec.IsTagRead manner means.now.rows.items tag.now result }
 {
-    let value = match read_said(alloc, means, tag) {
+    let value = match read_said(alloc, means, manner, tag) {
         Ok(value) => value,
         Err(UnreadValue::Fault(fault)) => {
             return Err(TagStop::Fault(ConditionsFault::Value {

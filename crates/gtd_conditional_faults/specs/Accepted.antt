@@ -48,6 +48,8 @@ accepted_value (value.Value place) =
 accepted_value (value.Term (term.Condition place)) =
     codes "a word or a comparison that the table of means has as a condition"
 accepted_value (value.Term (term.Hours start why)) = codes "opening hours, such as Mo-Fr 08:00-18:00"
+accepted_value (value.Term (term.Ambiguous start at)) =
+    codes "what is read in one way: weekdays in English, and times such as 08:00"
 
 -- What a file may have where this fault is. The header that is expected is shown below the first line.
 abbrev pub accepted : FileFault → Option (List ℕ)

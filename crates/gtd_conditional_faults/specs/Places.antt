@@ -21,6 +21,7 @@ place_of (value.Part place) = place
 place_of (value.Value place) = place
 place_of (value.Term (term.Condition place)) = place
 place_of (value.Term (term.Hours start why)) = min (start + why.place) 18_446_744_073_709_551_615
+place_of (value.Term (term.Ambiguous start at)) = min (start + at) 18_446_744_073_709_551_615
 
 -- the row that a fault is of, if it is of one; `TooManyRows` is of the first row too many
 abbrev pub means_row : MeansFault → Option ℕ

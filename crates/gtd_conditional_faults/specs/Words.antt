@@ -19,6 +19,8 @@ value_text (value.Value place) = codes "Value at " ++ decimal place
 value_text (value.Term (term.Condition place)) = codes "Condition at " ++ decimal place
 value_text (value.Term (term.Hours start why)) =
     codes "Hours " ++ kind_name why.kind ++ codes " at " ++ decimal (place_of (value.Term (term.Hours start why)))
+value_text (value.Term (term.Ambiguous start at)) =
+    codes "Hours Ambiguous at " ++ decimal (place_of (value.Term (term.Ambiguous start at)))
 
 -- the row and the fault
 abbrev pub tags_text : ConditionsFault → List ℕ

@@ -67,6 +67,9 @@ fn accepted_value(fault: ValueFault) -> &'static str
             "a word or a comparison that the table of means has as a condition"
         }
         ValueFault::Term(TermFault::Hours { .. }) => "opening hours, such as Mo-Fr 08:00-18:00",
+        ValueFault::Term(TermFault::Ambiguous { .. }) => {
+            "what is read in one way: weekdays in English, and times such as 08:00"
+        }
     }
 }
 

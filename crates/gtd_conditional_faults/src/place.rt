@@ -20,6 +20,7 @@ pub(crate) fn place_of(fault: ValueFault) -> usize
         ValueFault::Value { place } => place,
         ValueFault::Term(TermFault::Condition { place }) => place,
         ValueFault::Term(TermFault::Hours { start, fault }) => start.saturating_add(fault.place),
+        ValueFault::Term(TermFault::Ambiguous { start, place }) => start.saturating_add(place),
     }
 }
 

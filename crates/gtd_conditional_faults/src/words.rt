@@ -30,6 +30,9 @@ impl Display for ValueFaultText {
                 let kind = fault.kind.name();
                 write!(f, "Hours {kind} at {place}")
             }
+            ValueFault::Term(TermFault::Ambiguous { .. }) => {
+                write!(f, "Hours Ambiguous at {place}")
+            }
         }
     }
 }

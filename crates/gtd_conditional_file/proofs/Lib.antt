@@ -1,5 +1,7 @@
--- Lemmas on when restrictions close, on the vehicle types of rows, on what is put of their lines, and on what a run did.
+-- Lemmas on when restrictions close, on the vehicle types of rows, on what is put of their lines, and on what a run did and
+-- warned of.
 pub mod CloseFacts
 pub mod NumberFacts
 pub mod PutFacts
 pub mod RunFacts
+pub mod WarnedFacts

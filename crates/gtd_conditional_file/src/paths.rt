@@ -1,4 +1,6 @@
-//! The paths of the two files.
+//! How the two files are read.
+
+use gtd_hours_loose::Manner;
 
 /// The paths of the two files, as faults name them.
 #[derive(Clone, Copy)]
@@ -7,4 +9,13 @@ pub struct Paths<'a> {
     pub tags: &'a str,
     /// That of the table of means.
     pub means: &'a str,
+}
+
+/// How the two files are read.
+#[derive(Clone, Copy)]
+pub struct ConditionsReading<'a> {
+    /// Their paths.
+    pub paths: Paths<'a>,
+    /// How hours in values are read.
+    pub manner: Manner,
 }

@@ -1,13 +1,15 @@
 //! The run that translates a file of tags to a record file.
 
-ghost use Rattle.std.specs.Prelude.{◌≡◌, ◌≤◌, ◌<◌, ℕ, [], List, Ok, Some, IfErr, IsErrOf, IsTrue, OnOk, length};
-ghost use Rattle.gtd_conditional_elements.specs.File.{AreOfFile};
+ghost use Rattle.std.specs.Prelude.{◌≡◌, ◌≤◌, ◌<◌, ℕ, [], List, Ok, Some, IfErr, IfOk, IsErrOf, IsTrue, OnOk, length};
 ghost use Rattle.gtd_conditional_means.specs.Table.{IsTable};
 ghost use Rattle.gtd_conditional_file.specs.Run as spec;
-ghost use Rattle.gtd_conditional_file.specs.Run.{HasConverted};
+ghost use Rattle.gtd_conditional_file.specs.Run.{HasConverted, lines_of};
+ghost use Rattle.gtd_conditional_file.specs.Warned.{IsWarned};
+ghost use Rattle.gtd_hours_loose.specs.declared.manner.Manner.{Manner};
 
+use crate::converted::Converted;
 use crate::lists::{means_refusal, tags_refusal};
-use crate::paths::Paths;
+use crate::paths::ConditionsReading;
 use crate::putting::put_records;
 use crate::unconverted::Unconverted;
 use gtd_conditional_elements::{ConditionsFault, ElementRow, read_elements};
@@ -41,8 +43,8 @@ fn put_sound<O: Output>(
 ) -> Result<u64, Unconverted>
     requires writable { O.failure_count output.old < u64.MAX }
     requires few { length rows.now ≤ 4294967295 }
-    ensures stands { (paths : spec.TwoPaths) (means tags : List ℕ) → spec.AreRowsOf means tags rows.now
-        → HasConverted paths (Some means) (Some tags) (O.taken output.old) (O.taken output.new) result }
+    ensures stands { (manner : Manner) (paths : spec.TwoPaths) (means tags : List ℕ) → spec.AreRowsOf manner means tags rows.now
+        → HasConverted manner paths (Some means) (Some tags) (O.taken output.old) (O.taken output.new) result }
     ensures cause { IfErr result spec.IsPutStop }
     ensures ended { OnOk result (IsTrue (O.is_ended output.new)) }
     ensures failures { O.failure_count output.new
@@ -53,29 +55,47 @@ fn put_sound<O: Output>(
     answer(put, progress)
 }
 
-// Puts what the file of tags with this path and these bytes stands for, if it is not at fault.
+// The answer of a run with these warnings.
+fn with_warnings(
+    answer: Result<u64, Unconverted>,
+    warnings: Vec<u8>,
+) -> Result<Converted, Unconverted>
+    ensures lines { lines_of result ≡ answer }
+    ensures warnings { IfOk result (λ done. done.warnings ≡ warnings) }
+{
+    match answer {
+        Ok(lines) => Ok(Converted { lines, warnings }),
+        Err(why) => Err(why),
+    }
+}
+
+// Puts what the file of tags with these bytes stands for, if it is not at fault.
 fn put_tags<O: Output>(
     alloc: Global,
     output: &mut O,
-    path: &str,
     bytes: &[u8],
     means: &Means,
-) -> Result<u64, Unconverted>
+    reading: ConditionsReading<'_>,
+) -> Result<Converted, Unconverted>
     requires writable { O.failure_count output.old < u64.MAX }
-    ensures stands { (paths : spec.TwoPaths) (table : List ℕ) → paths.tags ≡ path.now → IsTable table (Ok means.now.rows.items)
-        → HasConverted paths (Some table) (Some bytes.now) (O.taken output.old) (O.taken output.new) result }
+    ensures stands { (table : List ℕ) → IsTable table (Ok means.now.rows.items)
+        → HasConverted reading.entry.manner (spec.paths_of reading.entry.paths) (Some table) (Some bytes.now)
+        (O.taken output.old) (O.taken output.new) (lines_of result) }
+    ensures warned { (table : List ℕ) → IsTable table (Ok means.now.rows.items)
+        → IsWarned reading.entry.manner (spec.paths_of reading.entry.paths) (Some table) (Some bytes.now) result }
     ensures cause { IfErr result spec.IsPutStop }
     ensures ended { OnOk result (IsTrue (O.is_ended output.new)) }
     ensures failures { O.failure_count output.new
         ≡ spec.failures_after_putting result (O.failure_count output.old) }
 {
-    let Ok(file) = read_elements(alloc, means, bytes) else {
+    let Ok(file) = read_elements(alloc, means, reading.manner, reading.paths.tags, bytes) else {
         return Err(Unconverted::NoMemory { written: 0 });
     };
     if !file.faults.is_empty() {
-        return Err(tags_refusal(alloc, path, bytes, file.faults.as_slice()));
+        return Err(tags_refusal(alloc, reading.paths.tags, bytes, file.faults.as_slice()));
     }
-    put_sound(alloc, output, file.rows.as_slice())
+    let put = put_sound(alloc, output, file.rows.as_slice());
+    with_warnings(put, file.warnings)
 }
 
 // Puts what a file of tags stands for, which an input brings, by a table of means.
@@ -83,13 +103,16 @@ fn run_tags<I: Input, O: Output>(
     alloc: Global,
     tags: &mut I,
     output: &mut O,
-    path: &str,
     means: &Means,
-) -> Result<u64, Unconverted>
+    reading: ConditionsReading<'_>,
+) -> Result<Converted, Unconverted>
     requires readable { I.failure_count tags.old < u64.MAX }
     requires writable { O.failure_count output.old < u64.MAX }
-    ensures stands { (paths : spec.TwoPaths) (table : List ℕ) → paths.tags ≡ path.now → IsTable table (Ok means.now.rows.items)
-        → HasConverted paths (Some table) (I.to_come tags.old) (O.taken output.old) (O.taken output.new) result }
+    ensures stands { (table : List ℕ) → IsTable table (Ok means.now.rows.items)
+        → HasConverted reading.entry.manner (spec.paths_of reading.entry.paths) (Some table) (I.to_come tags.old)
+        (O.taken output.old) (O.taken output.new) (lines_of result) }
+    ensures warned { (table : List ℕ) → IsTable table (Ok means.now.rows.items)
+        → IsWarned reading.entry.manner (spec.paths_of reading.entry.paths) (Some table) (I.to_come tags.old) result }
     ensures cause { IfErr result spec.IsTagsStop }
     ensures ended { OnOk result (IsTrue (O.is_ended output.new)) }
     ensures endless { IsErrOf result Unconverted.TagsEndless → IsTrue (I.may_fall_silent tags.old) }
@@ -99,10 +122,10 @@ fn run_tags<I: Input, O: Output>(
         ≡ spec.failures_after_putting result (O.failure_count output.old) }
 {
     match read_whole(alloc, tags, MOST_FILE_BYTES) {
-        Ok(bytes) => put_tags(alloc, output, path, bytes.as_slice(), means),
+        Ok(bytes) => put_tags(alloc, output, bytes.as_slice(), means, reading),
         Err(InputFault::TooLarge) => Err(tags_refusal(
             alloc,
-            path,
+            reading.paths.tags,
             &[],
             &[ConditionsFault::Row(TagsFault::TooLarge)],
         )),
@@ -117,13 +140,15 @@ fn run_with<I: Input, O: Output>(
     alloc: Global,
     tags: &mut I,
     output: &mut O,
-    paths: Paths<'_>,
     bytes: &[u8],
-) -> Result<u64, Unconverted>
+    reading: ConditionsReading<'_>,
+) -> Result<Converted, Unconverted>
     requires readable { I.failure_count tags.old < u64.MAX }
     requires writable { O.failure_count output.old < u64.MAX }
-    ensures stands { HasConverted (spec.paths_of paths.entry) (Some bytes.now) (I.to_come tags.old) (O.taken output.old)
-        (O.taken output.new) result }
+    ensures stands { HasConverted reading.entry.manner (spec.paths_of reading.entry.paths) (Some bytes.now) (I.to_come tags.old)
+        (O.taken output.old) (O.taken output.new) (lines_of result) }
+    ensures warned { IsWarned reading.entry.manner (spec.paths_of reading.entry.paths) (Some bytes.now) (I.to_come tags.old)
+        result }
     ensures cause { IfErr result spec.IsTagsStop }
     ensures ended { OnOk result (IsTrue (O.is_ended output.new)) }
     ensures endless { IsErrOf result Unconverted.TagsEndless → IsTrue (I.may_fall_silent tags.old) }
@@ -133,10 +158,10 @@ fn run_with<I: Input, O: Output>(
         ≡ spec.failures_after_putting result (O.failure_count output.old) }
 {
     match read_means(alloc, bytes) {
-        Ok(means) => run_tags(alloc, tags, output, paths.tags, &means),
+        Ok(means) => run_tags(alloc, tags, output, &means, reading),
         Err(Unread::Faults(faults)) => Err(means_refusal(
             alloc,
-            paths.means,
+            reading.paths.means,
             bytes,
             faults.as_slice(),
         )),
@@ -144,10 +169,11 @@ fn run_with<I: Input, O: Output>(
     }
 }
 
-/// Puts the record file of version 2 that a file of tags stands for by a table of means, which two inputs bring: the elements in
-/// the order in which they first come, of each first the rows of access and then those of one-way traffic. In each direction the
-/// rows of an element close it for a vehicle type at a second exactly if its tags do. Answers the number of lines, the header
-/// included.
+/// Puts the record file of version 2 that a file of tags stands for by a table of means, which two inputs bring: the elements
+/// in the order in which they first come, of each first the rows of access and then those of one-way traffic. In each direction
+/// the rows of an element close it for a vehicle type at a second exactly if its tags do. Hours in values are read in the
+/// manner that is given. Answers the number of lines, the header included, and the warnings of these hours: where they are
+/// written loosely, and which of their rules hide hours.
 ///
 /// Errors, in their order: `MeansReadFault`, `MeansEndless` or `NoMemory` while the table is read; `Faults` if it is at fault,
 /// before the file of tags is pulled; `TagsReadFault`, `TagsEndless` or `NoMemory` while that is read; `Faults` if it or a value
@@ -158,16 +184,19 @@ pub fn run_conditions<I: Input, J: Input, O: Output>(
     tags: &mut I,
     means: &mut J,
     output: &mut O,
-    paths: Paths<'_>,
-) -> Result<u64, Unconverted>
+    reading: ConditionsReading<'_>,
+) -> Result<Converted, Unconverted>
     requires readable { I.failure_count tags.old < u64.MAX }
     requires means_readable { J.failure_count means.old < u64.MAX }
     requires writable { O.failure_count output.old < u64.MAX }
     // What each answer means. The number of lines: the output took the record file of the rows that the two files stand for.
     // `Faults`: the text lists all faults of the table of means, or, if it has none, of the file of tags, and nothing was put.
     // `WriteFault`, or `NoMemory` after both files were read: the output took a first part of the lines of the first rows.
-    ensures stands { HasConverted (spec.paths_of paths.entry) (J.to_come means.old) (I.to_come tags.old) (O.taken output.old)
-        (O.taken output.new) result }
+    ensures stands { HasConverted reading.entry.manner (spec.paths_of reading.entry.paths) (J.to_come means.old)
+        (I.to_come tags.old) (O.taken output.old) (O.taken output.new) (lines_of result) }
+    // The warnings are those of the hours in the values, down to the last byte, each with the line on which the row begins.
+    ensures warned { IsWarned reading.entry.manner (spec.paths_of reading.entry.paths) (J.to_come means.old)
+        (I.to_come tags.old) result }
     // An output that took the whole text was then ended, last of all.
     ensures ended { OnOk result (IsTrue (O.is_ended output.new)) }
     ensures tags_endless { IsErrOf result Unconverted.TagsEndless → IsTrue (I.may_fall_silent tags.old) }
@@ -180,10 +209,10 @@ pub fn run_conditions<I: Input, J: Input, O: Output>(
         ≡ spec.failures_after_putting result (O.failure_count output.old) }
 {
     match read_whole(alloc, means, MOST_FILE_BYTES) {
-        Ok(bytes) => run_with(alloc, tags, output, paths, bytes.as_slice()),
+        Ok(bytes) => run_with(alloc, tags, output, bytes.as_slice(), reading),
         Err(InputFault::TooLarge) => Err(means_refusal(
             alloc,
-            paths.means,
+            reading.paths.means,
             &[],
             &[MeansFault::TooLarge],
         )),

@@ -11,7 +11,16 @@ use crate::terms::read_condition;
 use crate::value::{Part, UnreadValue, ValueFault};
 use gtd_conditional_means::Means;
 use gtd_conditional_values::{UnreadTerm, at_sign, front_spaces, part_length, trimmed};
+use gtd_hours_loose::Manner;
 use std::alloc::{AllocError, Global};
+
+// By what parts are read.
+#[derive(Clone, Copy)]
+struct Reading<'a> {
+    means: &'a Means,
+    manner: Manner,
+    subject: Subject,
+}
 
 // Whether a part has an `@`.
 fn has_at(part: &[u8]) -> bool
@@ -63,27 +72,24 @@ fn unread(why: UnreadTerm) -> UnreadValue
 }
 
 // What the part that stands at a place says.
-fn read_part(
-    alloc: Global,
-    means: &Means,
-    subject: Subject,
-    place: usize,
-    part: &[u8],
-) -> Result<Part, UnreadValue>
+fn read_part(alloc: Global, by: Reading<'_>, place: usize, part: &[u8]) -> Result<Part, UnreadValue>
     requires fits { place + length part.now ≤ 18446744073709551615 }
     requires has { at_sign part.now ≡ None → ⊥ }
-    ensures part { IfOk result (λ read. IsPart subject means.now.rows.items place part.now read) }
-    ensures fault { IfErr result (λ why. IsPartStop subject means.now.rows.items place part.now why) }
+    ensures part { IfOk result (λ read.
+        IsPart by.entry.subject by.entry.manner by.entry.means.now.rows.items place part.now read) }
+    ensures fault { IfErr result (λ why.
+        IsPartStop by.entry.subject by.entry.manner by.entry.means.now.rows.items place part.now why) }
 {
     let at = at_of(part);
     let name = &part[..at];
-    match said_of(means, subject, trimmed(name)) {
+    match said_of(by.means, by.subject, trimmed(name)) {
         None => Err(UnreadValue::Fault(ValueFault::Value {
             place: place + front_spaces(name),
         })),
         Some(said) => match read_condition(
             alloc,
-            means,
+            by.means,
+            by.manner,
             place + (at + 1),
             text_from(part, at + 1),
         ) {
@@ -100,23 +106,30 @@ fn push_part(parts: &mut Vec<Part>, part: Part) -> Result<(), AllocError>
     Ok(())
 }
 
-/// The parts of a text, each of which has an `@`; or why they are not read. `NoMemory` is answered only if memory was refused.
+/// The parts of a text, each of which has an `@`, whose hours are read in this manner; or why they are not read. `NoMemory` is
+/// answered only if memory was refused.
 pub(crate) fn read_parts(
     alloc: Global,
     means: &Means,
+    manner: Manner,
     subject: Subject,
     text: &[u8],
 ) -> Result<Vec<Part>, UnreadValue>
     requires have { (place : ℕ) → LacksAt 0 text.now place → ⊥ }
-    ensures parts { IfOk result (λ parts. AreParts subject means.now.rows.items 0 text.now parts.items) }
-    ensures fault { IfErr result (λ why. IsPartsStop subject means.now.rows.items 0 text.now why) }
+    ensures parts { IfOk result (λ parts. AreParts subject manner means.now.rows.items 0 text.now parts.items) }
+    ensures fault { IfErr result (λ why. IsPartsStop subject manner means.now.rows.items 0 text.now why) }
 {
+    let by = Reading {
+        means,
+        manner,
+        subject,
+    };
     let mut parts = Vec::new(alloc);
     let mut at = 0;
     let mut rest = text;
     loop {
         let bytes = part_length(rest);
-        let part = match read_part(alloc, means, subject, at, &rest[..bytes]) {
+        let part = match read_part(alloc, by, at, &rest[..bytes]) {
             Ok(part) => part,
             Err(why) => return Err(why),
         };

@@ -12,6 +12,7 @@ use crate::said::{Said, Subject, said_of};
 use crate::value::{Part, UnreadValue, Value, ValueFault};
 use gtd_conditional_means::Means;
 use gtd_conditional_values::first_unnested;
+use gtd_hours_loose::Manner;
 use std::alloc::{AllocError, Global};
 
 fn end_spaces(text: &[u8]) -> usize
@@ -52,22 +53,23 @@ fn body(value: &[u8]) -> &[u8]
 fn read_body(
     alloc: Global,
     means: &Means,
+    manner: Manner,
     subject: Subject,
     text: &[u8],
 ) -> Result<Value, UnreadValue>
-    ensures value { IfOk result (λ read. AreParts subject means.now.rows.items 0 text.now read.parts.items) }
-    ensures fault { IfErr result (λ why. IsBodyStop subject means.now.rows.items text.now why) }
+    ensures value { IfOk result (λ read. AreParts subject manner means.now.rows.items 0 text.now read.parts.items) }
+    ensures fault { IfErr result (λ why. IsBodyStop subject manner means.now.rows.items text.now why) }
 {
     match first_without_at(text) {
         Some(place) => Err(UnreadValue::Fault(ValueFault::Part { place })),
-        None => match read_parts(alloc, means, subject, text) {
+        None => match read_parts(alloc, means, manner, subject, text) {
             Ok(parts) => Ok(Value { parts }),
             Err(why) => Err(why),
         },
     }
 }
 
-/// What a value with conditions says, or why it is not read.
+/// What a value with conditions says, if hours are read in this manner, or why it is not read.
 ///
 /// The first fault is of all that is cut: `Part`, of parentheses and comments, and then of the first part without `@`. Otherwise
 /// it is that of the first part that has one: `Value` of its name, and then that of its first term that is at fault. One `;` at
@@ -75,15 +77,16 @@ fn read_body(
 pub fn read_value(
     alloc: Global,
     means: &Means,
+    manner: Manner,
     subject: Subject,
     value: &[u8],
 ) -> Result<Value, UnreadValue>
-    ensures value { IfOk result (λ read. IsValue subject means.now.rows.items value.now read) }
-    ensures fault { IfErr result (λ why. IsValueStop subject means.now.rows.items value.now why) }
+    ensures value { IfOk result (λ read. IsValue subject manner means.now.rows.items value.now read) }
+    ensures fault { IfErr result (λ why. IsValueStop subject manner means.now.rows.items value.now why) }
 {
     match first_unnested(value) {
         Some(place) => Err(UnreadValue::Fault(ValueFault::Part { place })),
-        None => read_body(alloc, means, subject, body(value)),
+        None => read_body(alloc, means, manner, subject, body(value)),
     }
 }
 

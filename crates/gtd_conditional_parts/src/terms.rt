@@ -8,14 +8,27 @@ use gtd_conditional_means::Means;
 use gtd_conditional_values::{
     Term, UnreadTerm, enclosed, front_spaces, read_term, term_length, trimmed,
 };
+use gtd_hours_loose::Manner;
 use std::alloc::{AllocError, Global};
 
 // What the term that stands at a place is.
-fn read_term_at(alloc: Global, means: &Means, place: usize, text: &[u8]) -> Result<Term, UnreadTerm>
+fn read_term_at(
+    alloc: Global,
+    means: &Means,
+    manner: Manner,
+    place: usize,
+    text: &[u8],
+) -> Result<Term, UnreadTerm>
     requires fits { place + length text.now ≤ 18446744073709551615 }
-    ensures { IsTermAt means.now.rows.items place text.now result }
+    ensures { IsTermAt manner means.now.rows.items place text.now result }
 {
-    read_term(alloc, means, place + front_spaces(text), trimmed(text))
+    read_term(
+        alloc,
+        means,
+        manner,
+        place + front_spaces(text),
+        trimmed(text),
+    )
 }
 
 fn push_term(terms: &mut Vec<Term>, term: Term) -> Result<(), AllocError>
@@ -29,19 +42,20 @@ fn push_term(terms: &mut Vec<Term>, term: Term) -> Result<(), AllocError>
 fn read_terms(
     alloc: Global,
     means: &Means,
+    manner: Manner,
     place: usize,
     text: &[u8],
 ) -> Result<Vec<Term>, UnreadTerm>
     requires fits { place + length text.now ≤ 18446744073709551615 }
-    ensures terms { IfOk result (λ terms. AreTerms means.now.rows.items place text.now terms.items) }
-    ensures fault { IfErr result (λ why. IsTermsStop means.now.rows.items place text.now why) }
+    ensures terms { IfOk result (λ terms. AreTerms manner means.now.rows.items place text.now terms.items) }
+    ensures fault { IfErr result (λ why. IsTermsStop manner means.now.rows.items place text.now why) }
 {
     let mut terms = Vec::new(alloc);
     let mut at = place;
     let mut rest = text;
     loop {
         let bytes = term_length(rest);
-        let term = match read_term_at(alloc, means, at, &rest[..bytes]) {
+        let term = match read_term_at(alloc, means, manner, at, &rest[..bytes]) {
             Ok(term) => term,
             Err(why) => return Err(why),
         };
@@ -54,20 +68,21 @@ fn read_terms(
     }
 }
 
-/// The terms of a condition that begins at a place of a value, or why they are not read. `NoMemory` is answered only if memory
-/// was refused.
+/// The terms of a condition that begins at a place of a value, whose hours are read in this manner; or why they are not read.
+/// `NoMemory` is answered only if memory was refused.
 pub(crate) fn read_condition(
     alloc: Global,
     means: &Means,
+    manner: Manner,
     place: usize,
     text: &[u8],
 ) -> Result<Vec<Term>, UnreadTerm>
     requires fits { place + length text.now ≤ 18446744073709551615 }
-    ensures terms { IfOk result (λ terms. AreConditions means.now.rows.items place text.now terms.items) }
-    ensures fault { IfErr result (λ why. IsConditionsStop means.now.rows.items place text.now why) }
+    ensures terms { IfOk result (λ terms. AreConditions manner means.now.rows.items place text.now terms.items) }
+    ensures fault { IfErr result (λ why. IsConditionsStop manner means.now.rows.items place text.now why) }
 {
     match enclosed(trimmed(text)) {
-        Some(inside) => read_terms(alloc, means, place + front_spaces(text) + 1, inside),
-        None => read_terms(alloc, means, place, text),
+        Some(inside) => read_terms(alloc, means, manner, place + front_spaces(text) + 1, inside),
+        None => read_terms(alloc, means, manner, place, text),
     }
 }

@@ -16,13 +16,13 @@ pub apart : (rows : List MeansRow) (terms : List Term) (t : ℕ) (s : ℤ) → E
     → EachHoldsFor rows terms t × EachHoldsAt terms s
 apart rows [] t s h = (tt, tt)
 apart rows (term.Named name ∷ terms) t s h = let rest = apart rows terms t s h.1 in ((h.0, rest.0), (tt, rest.1))
-apart rows (term.Hours hours ∷ terms) t s h = let rest = apart rows terms t s h.1 in ((tt, rest.0), (h.0, rest.1))
+apart rows (term.Hours given ∷ terms) t s h = let rest = apart rows terms t s h.1 in ((tt, rest.0), (h.0, rest.1))
 
 pub together : (rows : List MeansRow) (terms : List Term) (t : ℕ) (s : ℤ) → EachHoldsFor rows terms t → EachHoldsAt terms s
     → EachHolds rows terms t s
 together rows [] t s f g = tt
 together rows (term.Named name ∷ terms) t s f g = (f.0, together rows terms t s f.1 g.1)
-together rows (term.Hours hours ∷ terms) t s f g = (g.0, together rows terms t s f.1 g.1)
+together rows (term.Hours given ∷ terms) t s f g = (g.0, together rows terms t s f.1 g.1)
 
 -- ---- one term more, in a loop
 

@@ -24,7 +24,7 @@ module _ (rows : List MeansRow) where
   -- a condition holds for the vehicle types of the table, and hours at the seconds at which they are open
   abbrev pub Holds : Term → ℕ → ℤ → Type 0
   Holds (term.Named name) t s = IsAmong (types_of Condition name.items rows) t
-  Holds (term.Hours hours) t s = IsOpen hours s
+  Holds (term.Hours given) t s = IsOpen given.hours s
 
   abbrev pub EachHolds : List Term → ℕ → ℤ → Type 0
   EachHolds [] t s = ⊤

@@ -16,7 +16,7 @@ use Rattle.gtd_conditional_steps.specs.declared.tag.Tag.{Tag}
 
 abbrev pub term_cost : Term → ℕ
 term_cost (term.Named name) = 0
-term_cost (term.Hours hours) = hours_cost hours
+term_cost (term.Hours given) = hours_cost given.hours
 
 abbrev pub terms_cost : List Term → ℕ
 terms_cost [] = 0
@@ -36,7 +36,7 @@ NeedTooMany (tag ∷ tags) = PartsNeedTooMany tag.value.parts.items ⊎ NeedTooM
 module _ (rows : List MeansRow) where
   abbrev pub HoldsFor : Term → ℕ → Type 0
   HoldsFor (term.Named name) t = IsAmong (types_of Condition name.items rows) t
-  HoldsFor (term.Hours hours) t = ⊤
+  HoldsFor (term.Hours given) t = ⊤
 
   abbrev pub EachHoldsFor : List Term → ℕ → Type 0
   EachHoldsFor [] t = ⊤
@@ -44,7 +44,7 @@ module _ (rows : List MeansRow) where
 
 abbrev pub HoldsAt : Term → ℤ → Type 0
 HoldsAt (term.Named name) s = ⊤
-HoldsAt (term.Hours hours) s = IsOpen hours s
+HoldsAt (term.Hours given) s = IsOpen given.hours s
 
 abbrev pub EachHoldsAt : List Term → ℤ → Type 0
 EachHoldsAt [] s = ⊤

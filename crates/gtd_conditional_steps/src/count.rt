@@ -17,7 +17,7 @@ fn cost_in(term: &Term) -> u32
 {
     match term {
         Term::Named(_) => 0,
-        Term::Hours(hours) => cost_of(hours),
+        Term::Hours(given) => cost_of(&given.hours),
     }
 }
 

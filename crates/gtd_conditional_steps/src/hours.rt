@@ -61,8 +61,8 @@ fn with_term(alloc: Global, before: Option<Expr>, term: &Term) -> Result<Option<
 {
     match term {
         Term::Named(_) => Ok(before),
-        Term::Hours(hours) => {
-            let more = seconds_of(alloc, hours)?;
+        Term::Hours(given) => {
+            let more = seconds_of(alloc, &given.hours)?;
             let expr = met(alloc, before, more)?;
             Ok(Some(expr))
         }

@@ -1,14 +1,14 @@
 //! What a term stands for.
 
 ghost use Rattle.std.specs.Prelude.{◌≡◌, ◌≤◌, ◌+◌, length};
-ghost use Rattle.gtd_conditional_values.specs.ReadTerms.{IsHoursOf, IsHoursTerm, IsNamed, IsTerm};
+ghost use Rattle.gtd_conditional_values.specs.ReadTerms.{IsHoursOf, IsHoursTerm, IsNamed, IsTerm, fault_at};
 
+use crate::hours::{TermHours, hours_at};
 use crate::names::{condition_name, has_condition};
 use crate::pieces::enclosed;
 use gtd_conditional_means::Means;
-use gtd_hours::Hours;
 use gtd_hours_grammar::HoursFault;
-use gtd_hours_text::{HoursTextFault, read_hours};
+use gtd_hours_loose::{LooseFault, LooseReadFault, Manner, read_hours_in};
 use std::alloc::{AllocError, Global};
 
 /// What a term of a condition stands for.
@@ -17,7 +17,7 @@ pub enum Term {
     /// The condition of this name, which the table of means has: a comparison in its normal form, or a word.
     Named(Vec<u8>),
     /// These hours.
-    Hours(Hours),
+    Hours(TermHours),
 }
 
 /// What is wrong with a term. Places are numbers of bytes of the value before them.
@@ -34,6 +34,13 @@ pub enum TermFault {
         start: usize,
         /// Their fault, whose place is counted from there.
         fault: HoursFault,
+    },
+    /// People read the hours in two ways.
+    Ambiguous {
+        /// The place at which the hours begin.
+        start: usize,
+        /// The place of what is read in two ways, counted from there.
+        place: usize,
     },
 }
 
@@ -57,27 +64,48 @@ impl From<AllocError> for UnreadTerm {
     }
 }
 
-// The hours of a text that begins at this place.
-fn read_hours_at(alloc: Global, start: usize, text: &[u8]) -> Result<Term, UnreadTerm>
-    ensures { IsHoursTerm start text.now result }
+// The fault of hours that begin at this place.
+fn fault_at(start: usize, fault: LooseFault) -> TermFault
+    ensures { result ≡ fault_at start fault }
 {
-    match read_hours(alloc, text) {
-        Ok(hours) => Ok(Term::Hours(hours)),
-        Err(HoursTextFault::Fault(fault)) => {
-            Err(UnreadTerm::Fault(TermFault::Hours { start, fault }))
-        }
-        Err(HoursTextFault::NoMemory) => Err(UnreadTerm::NoMemory),
+    match fault {
+        LooseFault::Hours(fault) => TermFault::Hours { start, fault },
+        LooseFault::Ambiguous { place } => TermFault::Ambiguous { start, place },
+    }
+}
+
+// The hours of a text that begins at this place.
+fn read_hours_at(
+    alloc: Global,
+    manner: Manner,
+    start: usize,
+    text: &[u8],
+) -> Result<Term, UnreadTerm>
+    ensures { IsHoursTerm manner start text.now result }
+{
+    match read_hours_in(alloc, text, manner) {
+        Ok(read) => match hours_at(alloc, start, text, read) {
+            Ok(hours) => Ok(Term::Hours(hours)),
+            Err(_) => Err(UnreadTerm::NoMemory),
+        },
+        Err(LooseReadFault::Fault(fault)) => Err(UnreadTerm::Fault(fault_at(start, fault))),
+        Err(LooseReadFault::NoMemory) => Err(UnreadTerm::NoMemory),
     }
 }
 
 // The hours of a term, which may stand in parentheses.
-fn read_hours_of(alloc: Global, place: usize, term: &[u8]) -> Result<Term, UnreadTerm>
+fn read_hours_of(
+    alloc: Global,
+    manner: Manner,
+    place: usize,
+    term: &[u8],
+) -> Result<Term, UnreadTerm>
     requires { place + length term.now ≤ 18446744073709551615 }
-    ensures { IsHoursOf place term.now result }
+    ensures { IsHoursOf manner place term.now result }
 {
     match enclosed(term) {
-        Some(inside) => read_hours_at(alloc, place + 1, inside),
-        None => read_hours_at(alloc, place, term),
+        Some(inside) => read_hours_at(alloc, manner, place + 1, inside),
+        None => read_hours_at(alloc, manner, place, term),
     }
 }
 
@@ -91,19 +119,20 @@ fn named(means: &Means, place: usize, name: Vec<u8>) -> Result<Term, UnreadTerm>
     Ok(Term::Named(name))
 }
 
-/// What the term at this place of a value stands for, without spaces around it; or its fault. `NoMemory` is answered only if
-/// memory was refused.
+/// What the term at this place of a value stands for, without spaces around it, if hours are read in this manner; or its fault.
+/// `NoMemory` is answered only if memory was refused.
 pub fn read_term(
     alloc: Global,
     means: &Means,
+    manner: Manner,
     place: usize,
     term: &[u8],
 ) -> Result<Term, UnreadTerm>
     requires fits { place + length term.now ≤ 18446744073709551615 }
-    ensures term { IsTerm means.now.rows.items place term.now result }
+    ensures term { IsTerm manner means.now.rows.items place term.now result }
 {
     match condition_name(alloc, means, term)? {
         Some(name) => named(means, place, name),
-        None => read_hours_of(alloc, place, term),
+        None => read_hours_of(alloc, manner, place, term),
     }
 }

@@ -12,6 +12,7 @@ use Rattle.gtd_hours_holidays.specs.Table.{IsOfRow, IsOfRows}
 use Rattle.gtd_hours_holidays.specs.declared.known_years.KnownYears.{KnownYears}
 use Rattle.gtd_hours_holidays.specs.declared.row.HolidayKind.{HolidayKind}
 use Rattle.gtd_hours_holidays.specs.declared.row.HolidayRow.{HolidayRow}
+use Rattle.gtd_hours_days.specs.Beginning.{IsBegun}
 use Rattle.gtd_hours_days.specs.Listed.{IsEasterSunday, IsKnownHoliday, IsListed, SomeListed}
 use Rattle.gtd_hours_days.specs.Parts.{IsNear}
 use Rattle.gtd_hours_days.specs.declared.listed.Listed.{Listed}
@@ -73,6 +74,37 @@ moved_in years n k offset of e =
         → a ≤ℤ n → n <ℤ b → neg_ℤ (pos 366) ≤ℤ d → d ≤ℤ pos 366 → k ≡ n +ℤ d → IsCalendarDay k
     within n k d a b low high p q r s e =
         (omega (arith, signed_arith, low, p, r, e), omega (arith, signed_arith, high, q, s, e))
+
+-- the set may begin 366 days before the years, and no day that is added comes before
+pub begin_in : (years : KnownYears) (first n : ℤ) → first ≡ first_day (pos years.first) → first ≤ℤ pos 303_150
+    → n +ℤ pos 366 ≡ first → IsCalendarDay n
+begin_in years first n is high e =
+    within first n (first_day (pos years.first)) (rw first_day-1800 at (years_in years).0) is high e
+  where
+    within : (first n a : ℤ) → neg_ℤ (pos 62_091) ≤ℤ (a -ℤ pos 730) → first ≡ a → first ≤ℤ pos 303_150 → n +ℤ pos 366 ≡ first
+        → IsCalendarDay n
+    within first n a low is high e = (omega (arith, signed_arith, low, is, e), omega (arith, signed_arith, high, e))
+
+pub begun_at : (years : KnownYears) (base begin : ℤ) → base ≡ begin → begin +ℤ pos 366 ≡ first_day (pos years.first)
+    → IsBegun base years
+begun_at years base begin e is = within base begin (first_day (pos years.first)) e is
+  where
+    within : (base begin a : ℤ) → base ≡ begin → begin +ℤ pos 366 ≡ a → (base +ℤ pos 366) ≤ℤ a
+    within base begin a e is = omega (arith, signed_arith, e, is)
+
+pub begun_in : (years : KnownYears) (base n : ℤ) → IsBegun base years → IsOfYears years.first years.last n → base ≤ℤ n
+begun_in years base n begun of = within base n (first_day (pos years.first)) begun of.0
+  where
+    within : (base n a : ℤ) → (base +ℤ pos 366) ≤ℤ a → a ≤ℤ n → base ≤ℤ n
+    within base n a begun low = omega (arith, signed_arith, begun, low)
+
+pub begun_moved : (years : KnownYears) (base n k : ℤ) (offset : Offset) → IsBegun base years
+    → IsOfYears years.first years.last n → k ≡ n +ℤ offset.days → base ≤ℤ k
+begun_moved years base n k offset begun of e =
+    within base n k offset.days (first_day (pos years.first)) begun of.0 offset.in_range.0 e
+  where
+    within : (base n k d a : ℤ) → (base +ℤ pos 366) ≤ℤ a → a ≤ℤ n → neg_ℤ (pos 366) ≤ℤ d → k ≡ n +ℤ d → base ≤ℤ k
+    within base n k d a begun low few e = omega (arith, signed_arith, begun, low, few, e)
 
 pub added_moved : (IsNew IsOld : ℤ → Type 0) (first last from to d : ℤ) → first ≡ from +ℤ d → last ≡ to +ℤ d
     → ((n : ℤ) → IsNew n ↔ (IsOld n ⊎ ((first ≤ℤ n) × (n ≤ℤ last))))

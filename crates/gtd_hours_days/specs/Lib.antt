@@ -1,3 +1,4 @@
+pub mod Beginning
 pub mod Costs
 pub mod Groups
 pub mod Listed

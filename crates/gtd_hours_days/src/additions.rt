@@ -6,6 +6,7 @@ ghost use Rattle.gtd_hours_holidays.specs.Days.{IsIn};
 ghost use Rattle.gtd_hours_holidays.specs.Easter.{IsEaster};
 ghost use Rattle.gtd_hours_holidays.specs.KnownYears.{IsOfYears};
 ghost use Rattle.gtd_hours_holidays.specs.Table.{IsOfRow};
+ghost use Rattle.gtd_hours_days.specs.Beginning.{IsBegun};
 ghost use Rattle.gtd_hours_days.specs.Listed.{IsEasterSunday, IsKnownHoliday, IsListed};
 
 use crate::listed::Listed;
@@ -33,7 +34,9 @@ fn add_between(
 ) -> Result<(), AllocError>
     requires from_in { IsOfYears years.first years.last from }
     requires to_in { IsOfYears years.first years.last to }
-    ensures { OnOk result ((n : ℤ) → IsIn days.new n
+    requires begun { IsBegun days.old.first years }
+    ensures begins { days.new.first ≡ days.old.first }
+    ensures added { OnOk result ((n : ℤ) → IsIn days.new n
         ↔ (IsIn days.old n ⊎ ((from ≤ℤ (n -ℤ offset.days)) × ((n -ℤ offset.days) ≤ℤ to)))) }
 {
     let first = plus(from, offset);
@@ -59,7 +62,9 @@ fn add_part(
 ) -> Result<(), AllocError>
     requires first_in { IsCalendarDay first }
     requires last_in { IsCalendarDay last }
-    ensures { OnOk result ((n : ℤ) → IsIn days.new n ↔ (IsIn days.old n
+    requires begun { IsBegun days.old.first years }
+    ensures begins { days.new.first ≡ days.old.first }
+    ensures added { OnOk result ((n : ℤ) → IsIn days.new n ↔ (IsIn days.old n
         ⊎ (IsOfYears years.first years.last (n -ℤ offset.days) × (first ≤ℤ (n -ℤ offset.days))
         × ((n -ℤ offset.days) ≤ℤ last)))) }
 {
@@ -96,7 +101,9 @@ fn add_row(
     offset: Offset,
     row: HolidayRow,
 ) -> Result<(), AllocError>
-    ensures { OnOk result ((n : ℤ) → IsIn days.new n ↔ (IsIn days.old n
+    requires { IsBegun days.old.first years }
+    ensures begins { days.new.first ≡ days.old.first }
+    ensures added { OnOk result ((n : ℤ) → IsIn days.new n ↔ (IsIn days.old n
         ⊎ (IsOfYears years.first years.last (n -ℤ offset.days) × IsOfRow kind false (n -ℤ offset.days) row))) }
 {
     if !is_of(row, kind) {
@@ -114,7 +121,9 @@ fn add_holidays(
     kind: HolidayKind,
     offset: Offset,
 ) -> Result<(), AllocError>
-    ensures { OnOk result ((n : ℤ) → IsIn days.new n
+    requires { IsBegun days.old.first years }
+    ensures begins { days.new.first ≡ days.old.first }
+    ensures added { OnOk result ((n : ℤ) → IsIn days.new n
         ↔ (IsIn days.old n ⊎ IsKnownHoliday rows.now years kind (n -ℤ offset.days))) }
 {
     for row in rows {
@@ -139,7 +148,9 @@ fn is_of_years(years: KnownYears, day: i64) -> bool
 
 // Adds a day, if it is one of the years.
 fn add_day(days: &mut Days, years: KnownYears, day: i64) -> Result<(), AllocError>
-    ensures { OnOk result ((n : ℤ) → IsIn days.new n
+    requires { IsBegun days.old.first years }
+    ensures begins { days.new.first ≡ days.old.first }
+    ensures added { OnOk result ((n : ℤ) → IsIn days.new n
         ↔ (IsIn days.old n ⊎ (IsOfYears years.first years.last n × (n ≡ day)))) }
 {
     if !is_of_years(years, day) {
@@ -159,7 +170,9 @@ fn after_easter(year: u16, offset: Offset) -> i64
 
 // Adds the days of the years that come so many days after Easter Sunday of some year.
 fn add_easter(days: &mut Days, years: KnownYears, offset: Offset) -> Result<(), AllocError>
-    ensures { OnOk result ((n : ℤ) → IsIn days.new n ↔ (IsIn days.old n
+    requires { IsBegun days.old.first years }
+    ensures begins { days.new.first ≡ days.old.first }
+    ensures added { OnOk result ((n : ℤ) → IsIn days.new n ↔ (IsIn days.old n
         ⊎ (IsOfYears years.first years.last n × IsEasterSunday (n -ℤ offset.days)))) }
 {
     easter_is_a_sunday();
@@ -171,7 +184,9 @@ fn add_easter(days: &mut Days, years: KnownYears, offset: Offset) -> Result<(), 
 
 // Adds the school holidays of the years.
 fn add_school(days: &mut Days, rows: &[HolidayRow], years: KnownYears) -> Result<(), AllocError>
-    ensures { OnOk result ((n : ℤ) → IsIn days.new n
+    requires { IsBegun days.old.first years }
+    ensures begins { days.new.first ≡ days.old.first }
+    ensures added { OnOk result ((n : ℤ) → IsIn days.new n
         ↔ (IsIn days.old n ⊎ IsKnownHoliday rows.now years HolidayKind.School n)) }
 {
     add_holidays(days, rows, years, HolidayKind::School, Offset { days: 0 })?;
@@ -185,7 +200,9 @@ pub(crate) fn add_listed(
     years: KnownYears,
     listed: Listed,
 ) -> Result<(), AllocError>
-    ensures { OnOk result ((n : ℤ) → IsIn days.new n ↔ (IsIn days.old n ⊎ IsListed rows.now years listed n)) }
+    requires { IsBegun days.old.first years }
+    ensures begins { days.new.first ≡ days.old.first }
+    ensures added { OnOk result ((n : ℤ) → IsIn days.new n ↔ (IsIn days.old n ⊎ IsListed rows.now years listed n)) }
 {
     match listed {
         Listed::Public { offset } => add_holidays(days, rows, years, HolidayKind::Public, offset),

@@ -1,12 +1,11 @@
 //! Whether a table of holidays says all that selectors need.
 
-ghost use Rattle.std.specs.Prelude.{◌≡◌, ℤ, Some, IfOk, MatchOption, IfSome, None};
+ghost use Rattle.std.specs.Prelude.{◌≡◌, Some, MatchOption};
 ghost use Rattle.gtd_hours_holidays.specs.declared.row.HolidayKind.{HolidayKind};
 ghost use Rattle.gtd_hours_days.specs.Listed.{CoversAll, CoversYears, IsFirstUncovered, IsUncovered, kind_of};
 
 use crate::listed::Listed;
 use gtd_hours_holidays::{HolidayKind, Holidays, KnownYears};
-use std::alloc::{AllocError, Global};
 
 /// A day that matters, and on which a table of holidays does not say all of them.
 #[derive(Clone, Copy, Debug, PartialEq, Eq)]
@@ -29,54 +28,43 @@ fn kind_in(listed: Listed) -> Option<HolidayKind>
 }
 
 // The first day of the years on which a table does not say all holidays of a kind.
-fn first_of_kind(
-    alloc: Global,
-    holidays: &Holidays,
-    years: KnownYears,
-    kind: HolidayKind,
-) -> Result<Option<i64>, AllocError>
-    ensures { IfOk result (λ first. MatchOption first (CoversYears holidays.now.rows.items years (Some kind))
-        (IsFirstUncovered holidays.now.rows.items years kind)) }
+fn first_of_kind(holidays: &Holidays, years: KnownYears, kind: HolidayKind) -> Option<i64>
+    ensures { MatchOption result (CoversYears holidays.now.rows.items years (Some kind))
+        (IsFirstUncovered holidays.now.rows.items years kind) }
 {
-    match holidays.first_uncovered(alloc, kind, years.first_day(), years.last_day())? {
-        Some(day) => Ok(Some(day)),
-        None => Ok(None),
+    match holidays.first_uncovered(kind, years.first_day(), years.last_day()) {
+        Some(day) => Some(day),
+        None => None,
     }
 }
 
 // The first day of the years on which a table does not say all holidays that a selector needs.
-fn first_for(
-    alloc: Global,
-    holidays: &Holidays,
-    years: KnownYears,
-    listed: Listed,
-) -> Result<Option<i64>, AllocError>
-    ensures { IfOk result (λ first. MatchOption first (CoversYears holidays.now.rows.items years (kind_of listed))
+fn first_for(holidays: &Holidays, years: KnownYears, listed: Listed) -> Option<i64>
+    ensures { MatchOption result (CoversYears holidays.now.rows.items years (kind_of listed))
         (λ day. (kind : HolidayKind) × (kind_of listed ≡ Some kind)
-        × IsFirstUncovered holidays.now.rows.items years kind day)) }
+        × IsFirstUncovered holidays.now.rows.items years kind day) }
 {
     match kind_in(listed) {
-        Some(kind) => first_of_kind(alloc, holidays, years, kind),
-        None => Ok(None),
+        Some(kind) => first_of_kind(holidays, years, kind),
+        None => None,
     }
 }
 
 /// The first selector for which a table does not say all holidays of the years, and the first day on which it does not; `None`
-/// exactly if it says all for each. `AllocError` is answered only if memory was refused.
+/// exactly if it says all for each. Takes no memory.
 pub fn first_uncovered(
-    alloc: Global,
     holidays: &Holidays,
     years: KnownYears,
     listed: &[Listed],
-) -> Result<Option<Uncovered>, AllocError>
-    ensures first { IfOk result (λ first. MatchOption first (CoversAll holidays.now.rows.items years listed.now)
-        (λ found. IsUncovered holidays.now.rows.items years listed.now found.place found.day)) }
+) -> Option<Uncovered>
+    ensures first { MatchOption result (CoversAll holidays.now.rows.items years listed.now)
+        (λ found. IsUncovered holidays.now.rows.items years listed.now found.place found.day) }
 {
     for place in 0..listed.len() {
-        match first_for(alloc, holidays, years, listed[place])? {
-            Some(day) => return Ok(Some(Uncovered { place, day })),
+        match first_for(holidays, years, listed[place]) {
+            Some(day) => return Some(Uncovered { place, day }),
             None => {}
         }
     }
-    Ok(None)
+    None
 }

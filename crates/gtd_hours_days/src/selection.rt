@@ -1,6 +1,7 @@
 //! The days of selectors, as a set and as an expression.
 
-ghost use Rattle.std.specs.Prelude.{◌≡◌, ◌↔◌, ℤ, IfOk};
+ghost use Rattle.std.specs.Prelude.{◌≡◌, ◌↔◌, ◌+ℤ◌, ℤ, pos, IfOk};
+ghost use Rattle.gtd_calendar.specs.Calendar.{IsCalendarDay, first_day};
 ghost use Rattle.gtd_core.specs.Trees.{leaf_count, tree_of};
 ghost use Rattle.gtd_hours_leaves.specs.Leaves.{AreDays, minutes_of};
 ghost use Rattle.gtd_hours_holidays.specs.Days.{IsIn};
@@ -41,6 +42,14 @@ impl From<AllocError> for ListedFault {
     }
 }
 
+// The first day of a set that holds the days of selectors: 366 days before the years.
+fn begin_of(years: KnownYears) -> i64
+    ensures before { (result +ℤ pos 366) ≡ first_day (pos years.first) }
+    ensures near { IsCalendarDay result }
+{
+    years.first_day() - 366
+}
+
 // The days of selectors, of which the table says all.
 fn marked(
     alloc: Global,
@@ -50,7 +59,7 @@ fn marked(
 ) -> Result<Days, AllocError>
     ensures { IfOk result (λ days. (n : ℤ) → IsIn days n ↔ SomeListed rows.now years listed.now n) }
 {
-    let mut days = Days::new(alloc);
+    let mut days = Days::new(alloc, begin_of(years));
     for selector in listed {
         add_listed(&mut days, rows, years, *selector)?;
     }
@@ -67,7 +76,7 @@ pub fn listed_days(
 ) -> Result<Days, ListedFault>
     ensures selected { AreSelected holidays.now years listed.now result }
 {
-    if let Some(uncovered) = first_uncovered(alloc, holidays, years, listed)? {
+    if let Some(uncovered) = first_uncovered(holidays, years, listed) {
         return Err(ListedFault::Uncovered(uncovered));
     }
     let days = marked(alloc, holidays.rows.as_slice(), years, listed)?;

@@ -1,5 +1,5 @@
 -- Each file of hours has an answer.
-use Rattle.std.proofs.Common.{◌≡◌, ap, refl, sym, subst, ◌<◌, ◌≤◌, ◌+◌, ◌⊎◌, inl, inr, ℕ, zero, suc, List, [], ◌∷◌, ◌++◌}
+use Rattle.std.proofs.Common.{◌≡◌, ap, refl, sym, subst, ◌<◌, ◌≤◌, ◌+◌, inl, inr, ℕ, zero, suc, List, [], ◌∷◌, ◌++◌}
 use Rattle.std.proofs.Common.{length, arith}
 use Rattle.std.specs.Prelude.{Option, Some, None, MatchOption, Result, Ok, Err}
 use Rattle.std.specs.Vec.{with_items}
@@ -9,8 +9,6 @@ use Rattle.csv.specs.Reading.{default_config, records, strip_bom}
 use Rattle.gtd_core.specs.Limits.{most_basic_domains, most_file_bytes, most_rows}
 use Rattle.gtd_core.specs.facts.Deciding.{Decided}
 use Rattle.gtd_hours.specs.Cost.{hours_cost}
-use Rattle.gtd_hours_known.specs.declared.fault.KnownFault.{KnownFault}
-use Rattle.gtd_hours_known.specs.declared.fault.KnownFault.TheVariants as of_text
 use Rattle.gtd_hours_known.specs.declared.known.KnownHours.{KnownHours}
 use Rattle.gtd_hours_text.specs.Room.{HasVectors}
 use Rattle.gtd_records.specs.Columns.{Fields, IsOrdered, closed_of, number_of, vehicles_of}
@@ -19,10 +17,9 @@ use Rattle.gtd_records.specs.declared.vehicles.Vehicles.{Vehicles}
 use Rattle.gtd_records.specs.declared.vehicles.Vehicles.TheVariants.{Every, Only, AllBut}
 use Rattle.gtd_records.specs.declared.vehicles.Version.TheVariants as version
 use Rattle.gtd_records.specs.facts.SortedCodes.{ascending}
-use Rattle.gtd_hours_file.specs.HoursFile.{AreEach, AreOfFile, AreRows, AreTable, HasFault, HowRead, IsHoursColumn}
-use Rattle.gtd_hours_file.specs.HoursFile.{IsHoursFault, IsHoursFile, IsHoursOf, IsRow, Reads, faults_of, header, known_holiday}
-use Rattle.gtd_hours_file.specs.HoursFile.{sound_of, with_hours}
-use Rattle.gtd_hours_file.specs.Reading.{text_fault}
+use Rattle.gtd_hours_file.specs.HoursFile.{AreEach, AreOfFile, AreRows, AreTable, HowRead, IsHoursColumn, IsHoursFault}
+use Rattle.gtd_hours_file.specs.HoursFile.{IsHoursFile, IsHoursOf, IsRow, Reads, faults_of, header, sound_of, text_fault}
+use Rattle.gtd_hours_file.specs.HoursFile.{with_hours}
 use Rattle.gtd_hours_file.specs.SameAnswers.{IsEachRead}
 use Rattle.gtd_hours_file.specs.declared.fault.HoursFileFault.{HoursFileFault}
 use Rattle.gtd_hours_file.specs.declared.fault.HoursFileFault.TheVariants as fault
@@ -82,15 +79,6 @@ record Says (Are : List HoursRow → List HoursFileFault → Type 0) : Type 0 wh
   faults : List HoursFileFault
   are : Are sound faults
 
--- the first fault of a text is one of its row
-fault_of : (how : HowRead) (row : ℕ) (text : List ℕ) (bad : KnownFault) → HasFault how text bad
-    → IsHoursFault how row text (text_fault row bad)
-fault_of how row text (of_text.Hours why) is = (refl, is)
-fault_of how row text (of_text.Ambiguous place) is = (refl, is)
-fault_of how row text (of_text.Holidays place) is = (refl, is)
-fault_of how row text (of_text.Years place) is = (refl, is)
-fault_of how row text (of_text.Uncovered place day) is = (refl, is)
-
 module _ (how : HowRead) (texts : HasVectors ℕ most_file_bytes) (each_text : IsEachRead how most_file_bytes) where
   -- ---- a row
 
@@ -104,14 +92,13 @@ module _ (how : HowRead) (texts : HasVectors ℕ most_file_bytes) (each_text : I
       let v = texts (length text) le in (
         record {
           text = with_items v.0 text;
-          read = record { hours = read.hours; form = read.form };
-          holiday = known_holiday read.first_holiday how.known.years;
+          read = read;
+          years = how.options.known.years;
         },
         record {
           kept = with_items_is v.0 text (sym v.1);
-          first = read.first_holiday;
           reads = is;
-          holiday = refl;
+          years = refl;
           few = few;
         },
       )
@@ -119,7 +106,7 @@ module _ (how : HowRead) (texts : HasVectors ℕ most_file_bytes) (each_text : I
   by_cost : (row b : ℕ) (text : List ℕ) → length (b ∷ text) ≤ most_file_bytes → (read : KnownHours) → Reads how (b ∷ text) read
       → Column row (b ∷ text)
   by_cost row b text le read is = elim (cases_lt most_basic_domains (hours_cost read.hours)) [
-    | inl many ↦ (Err (fault.TooMany row), (refl, read, is, many))
+    | inl many ↦ (Err (fault.TooMany row), IsHoursFault.of_many read is many refl)
     | inr few ↦ let k = kept (b ∷ text) le read is few in (Ok (Some k.0), k.1)
   ]
 
@@ -127,7 +114,7 @@ module _ (how : HowRead) (texts : HasVectors ℕ most_file_bytes) (each_text : I
   column row [] le = (Ok None, refl)
   column row (b ∷ text) le = elim (each_text (b ∷ text) le) [
     | inl read ↦ by_cost row b text le read.0 read.1
-    | inr bad ↦ (Err (text_fault row bad.0), fault_of how row (b ∷ text) bad.0 bad.1)
+    | inr bad ↦ (Err (text_fault row bad.0), IsHoursFault.of_first bad.0 bad.1 refl)
   ]
 
   abbrev IsRead : ℕ → ℕ → Closed → List ℕ → Vehicles → Result HoursRow HoursFileFault → Type 0

@@ -1,17 +1,13 @@
 -- The bytes of a file of hours have one answer.
-use Rattle.std.proofs.Common.{◌≡◌, ◌∙◌, sym, ap, refl, subst, ◌<◌, ◌≤◌, ◌+◌, inl, inr, ℕ, List, [], ◌∷◌, ◌++◌}
+use Rattle.std.proofs.Common.{◌≡◌, ◌∙◌, sym, ap, refl, subst, ◌≤◌, ◌+◌, inl, inr, ℕ, List, [], ◌∷◌, ◌++◌}
 use Rattle.std.proofs.Common.{length, arith}
 use Rattle.std.proofs.Common.{length-append}
 use Rattle.std.specs.Prelude.{◌↔◌, ℤ, Option, Some, None, MatchOption, Result, Ok, Err}
 use Rattle.csv.specs.Reading.{default_config, records, strip_bom}
-use Rattle.gtd_core.specs.Limits.{most_basic_domains, most_rows}
+use Rattle.gtd_core.specs.Limits.{most_rows}
 use Rattle.gtd_core.specs.Parts.{domain_tree}
 use Rattle.gtd_core.specs.Trees.{Tree}
-use Rattle.gtd_hours.specs.Cost.{hours_cost}
-use Rattle.gtd_hours.specs.Opening.{IsOpen}
-use Rattle.gtd_hours_known.specs.declared.fault.KnownFault.{KnownFault}
-use Rattle.gtd_hours_known.specs.declared.fault.KnownFault.TheVariants as of_text
-use Rattle.gtd_hours_known.specs.declared.known.KnownHours.{KnownHours}
+use Rattle.gtd_hours_options.specs.declared.fault.OptionsFault.{OptionsFault}
 use Rattle.gtd_records.specs.Closing.{HoldsAt, Restriction}
 use Rattle.gtd_records.specs.Columns.{Fields, IsOrdered, IsSortedSet, closed_of, number_of, vehicles_of}
 use Rattle.gtd_records.specs.declared.direction.Closed.{Closed}
@@ -19,10 +15,9 @@ use Rattle.gtd_records.specs.declared.vehicles.Vehicles.{Vehicles}
 use Rattle.gtd_records.specs.declared.vehicles.Vehicles.TheVariants.{Every, Only, AllBut}
 use Rattle.gtd_records.specs.declared.vehicles.Version.TheVariants as version
 use Rattle.gtd_records.specs.facts.Rising.{one_list}
-use Rattle.gtd_hours_file.specs.HoursFile.{AreEach, AreOfFile, AreRows, AreTable, AreTooMany, HasFault, HowRead}
-use Rattle.gtd_hours_file.specs.HoursFile.{IsFullRow, IsHoursColumn, IsHoursFault, IsHoursFile, IsHoursOf, IsRow, Reads}
-use Rattle.gtd_hours_file.specs.HoursFile.{faults_of, header, sound_of, with_hours}
-use Rattle.gtd_hours_file.specs.Reading.{text_fault}
+use Rattle.gtd_hours_file.specs.HoursFile.{AreEach, AreOfFile, AreRows, AreTable, AreTooMany, HowRead, IsFullRow}
+use Rattle.gtd_hours_file.specs.HoursFile.{IsHoursColumn, IsHoursFault, IsHoursFile, IsHoursOf, IsRow, faults_of, header}
+use Rattle.gtd_hours_file.specs.HoursFile.{sound_of, text_fault, with_hours}
 use Rattle.gtd_hours_file.specs.SameAnswers.{AreReadInOneWay, AreSameHours, AreSameRestrictions, AreSameRows, IsSameAnswer}
 use Rattle.gtd_hours_file.specs.SameAnswers.{IsSameRestriction, IsSameRow}
 use Rattle.gtd_hours_file.specs.Translated.{IsDomainOf, IsTranslated, IsTranslation}
@@ -87,58 +82,25 @@ same_with element closed vehicles (Ok one) (Err w) same = absurd same
 same_with element closed vehicles (Err v) (Ok other) same = absurd same
 same_with element closed vehicles (Err v) (Err w) same = same
 
--- ---- what is wrong with a text
-
--- A fault of hours is the first fault of the text, or that they take too many basic domains.
-data OfText (how : HowRead) (row : ℕ) (text : List ℕ) (why : HoursFileFault) : Type 0 where
-  of_first : (bad : KnownFault) → HasFault how text bad → why ≡ text_fault row bad → OfText how row text why
-  of_many : (read : KnownHours) → Reads how text read → most_basic_domains < hours_cost read.hours → why ≡ fault.TooMany row
-      → OfText how row text why
-
-of_row : (how : HowRead) (row : ℕ) (text : List ℕ) (why : HoursFileFault) → IsHoursFault how row text why
-    → OfText how row text why
-of_row how row text fault.TooLarge is = absurd is
-of_row how row text fault.Header is = absurd is
-of_row how row text (fault.FieldCount i) is = absurd is
-of_row how row text (fault.Element i) is = absurd is
-of_row how row text (fault.Direction i) is = absurd is
-of_row how row text (fault.Vehicle i) is = absurd is
-of_row how row text fault.TooManyRows is = absurd is
-of_row how row text (fault.Hours i bad) is = of_first (of_text.Hours bad) is.1 (ap (λ (n : ℕ). fault.Hours n bad) is.0)
-of_row how row text (fault.Ambiguous i place) is =
-    of_first (of_text.Ambiguous place) is.1 (ap (λ (n : ℕ). fault.Ambiguous n place) is.0)
-of_row how row text (fault.Holidays i place) is =
-    of_first (of_text.Holidays place) is.1 (ap (λ (n : ℕ). fault.Holidays n place) is.0)
-of_row how row text (fault.Years i place) is = of_first (of_text.Years place) is.1 (ap (λ (n : ℕ). fault.Years n place) is.0)
-of_row how row text (fault.Uncovered i place day) is =
-    of_first (of_text.Uncovered place day) is.1 (ap (λ (n : ℕ). fault.Uncovered n place day) is.0)
-of_row how row text (fault.TooMany i) is = of_many is.1 is.2 is.3 (ap (λ (n : ℕ). fault.TooMany n) is.0)
-
 module _ (how : HowRead) (one_way : AreReadInOneWay how) where
-  same_text_fault : (row : ℕ) (text : List ℕ) (v w : HoursFileFault) → OfText how row text v → OfText how row text w → v ≡ w
-  same_text_fault row text v w (of_first x p e) (of_first y q f) =
-      e ∙ ap (λ (bad : KnownFault). text_fault row bad) (one_way.fault text x y p q) ∙ sym f
-  same_text_fault row text v w (of_first x p e) (of_many read q more f) = absurd (one_way.apart text read x q p)
-  same_text_fault row text v w (of_many read p more e) (of_first y q f) = absurd (one_way.apart text read y p q)
-  same_text_fault row text v w (of_many read p more e) (of_many other q most f) = e ∙ sym f
+  -- ---- what is wrong with a text
 
   same_fault : (row : ℕ) (text : List ℕ) (v w : HoursFileFault) → IsHoursFault how row text v → IsHoursFault how row text w
       → v ≡ w
-  same_fault row text v w p q = same_text_fault row text v w (of_row how row text v p) (of_row how row text w q)
-
-  abbrev reading_of : RowHours → Option ℕ → KnownHours
-  reading_of given place = record { hours = given.read.hours; form = given.read.form; first_holiday = place }
-
-  no_text_fault : (row : ℕ) (text : List ℕ) (given : RowHours) (w : HoursFileFault) → IsHoursOf how text given
-      → OfText how row text w → ⊥
-  no_text_fault row text given w is (of_first bad q f) = one_way.apart text (reading_of given is.first) bad is.reads q
-  no_text_fault row text given w is (of_many read q more f) =
-      let same = one_way.cost text (reading_of given is.first) read is.reads q in
-      let few = is.few in omega (arith, same, more, few)
+  same_fault row text v w (IsHoursFault.of_first x p e) (IsHoursFault.of_first y q f) =
+      e ∙ ap (λ (bad : OptionsFault). text_fault row bad) (one_way.fault text x y p q) ∙ sym f
+  same_fault row text v w (IsHoursFault.of_first x p e) (IsHoursFault.of_many read q more f) =
+      absurd (one_way.apart text read x q p)
+  same_fault row text v w (IsHoursFault.of_many read p more e) (IsHoursFault.of_first y q f) =
+      absurd (one_way.apart text read y p q)
+  same_fault row text v w (IsHoursFault.of_many read p more e) (IsHoursFault.of_many other q most f) = e ∙ sym f
 
   not_faulty : (row : ℕ) (text : List ℕ) (given : RowHours) (w : HoursFileFault) → IsHoursOf how text given
       → IsHoursFault how row text w → ⊥
-  not_faulty row text given w is q = no_text_fault row text given w is (of_row how row text w q)
+  not_faulty row text given w is (IsHoursFault.of_first bad q f) = one_way.apart text given.read bad is.reads q
+  not_faulty row text given w is (IsHoursFault.of_many read q more f) =
+      let same = one_way.cost text given.read read is.reads q in
+      let few = is.few in omega (arith, same, more, few)
 
   same_column : (row : ℕ) (text : List ℕ) (a b : Result (Option RowHours) HoursFileFault) → IsHoursColumn how row text a
       → IsHoursColumn how row text b → SameColumn a b
@@ -146,7 +108,7 @@ module _ (how : HowRead) (one_way : AreReadInOneWay how) where
   same_column row (c ∷ text) (Ok None) b p q = absurd p
   same_column row (c ∷ text) (Ok (Some x)) (Ok None) p q = absurd q
   same_column row (c ∷ text) (Ok (Some x)) (Ok (Some y)) p q =
-      one_way.seconds (c ∷ text) (reading_of x p.first) (reading_of y q.first) p.reads q.reads
+      one_way.seconds (c ∷ text) x.read y.read p.reads q.reads
   same_column row (c ∷ text) (Ok (Some x)) (Err w) p q = absurd (not_faulty row (c ∷ text) x w p q)
   same_column row (c ∷ text) (Err v) (Ok None) p q = absurd q
   same_column row (c ∷ text) (Err v) (Ok (Some y)) p q = absurd (not_faulty row (c ∷ text) y v q p)

@@ -6,16 +6,15 @@ use Rattle.std.proofs.Math.Nat.{min-eq_left, min-le_left, min_comm}
 use Rattle.std.proofs.lemmas.Bool.{cases_lt}
 use Rattle.gtd_core.specs.Limits.{most_basic_domains}
 use Rattle.gtd_hours.specs.Cost.{counted, hours_cost, most_counted}
-use Rattle.gtd_hours_known.specs.Manners.{IsKnownReadFaultIn}
-use Rattle.gtd_hours_known.specs.declared.fault.KnownFault.TheVariants as of_text
-use Rattle.gtd_hours_known.specs.declared.fault.KnownReadFault.{KnownReadFault}
-use Rattle.gtd_hours_known.specs.declared.fault.KnownReadFault.TheVariants as reading
 use Rattle.gtd_hours_known.specs.declared.known.KnownHours.{KnownHours}
+use Rattle.gtd_hours_options.specs.Manners.{IsReadFaultWithIn}
+use Rattle.gtd_hours_options.specs.declared.fault.OptionsReadFault.{OptionsReadFault}
+use Rattle.gtd_hours_options.specs.declared.fault.OptionsReadFault.TheVariants as reading
 use Rattle.gtd_records.specs.Columns.{AreTypesRead, Fields, IsOrdered, closed_of, number_of, vehicles_of}
 use Rattle.gtd_records.specs.declared.direction.Closed.{Closed}
 use Rattle.gtd_records.specs.declared.vehicles.Vehicles.{Vehicles}
 use Rattle.gtd_records.specs.declared.vehicles.Version.TheVariants as version
-use Rattle.gtd_hours_file.specs.HoursFile.{HowRead, IsFullRow, IsHoursColumn, IsHoursOf, IsRow, Reads, known_holiday}
+use Rattle.gtd_hours_file.specs.HoursFile.{HowRead, IsFullRow, IsHoursColumn, IsHoursFault, IsHoursOf, IsRow, Reads}
 use Rattle.gtd_hours_file.specs.HoursFile.{with_hours}
 use Rattle.gtd_hours_file.specs.PuttingRows.{IsWithin}
 use Rattle.gtd_hours_file.specs.Reading.{IsColumnRead, IsRowRead, IsTextStop, unread}
@@ -41,25 +40,19 @@ below n m is few = elim (cases_lt most_counted n) [
 
 -- what is kept of a text from which hours are read, and which few basic domains have
 pub is_kept : (how : HowRead) (text : List ℕ) (read : KnownHours) (given : RowHours) → Reads how text read
-    → given.text.items ≡ text → given.read.hours ≡ read.hours → given.read.form ≡ read.form
-    → given.holiday ≡ known_holiday read.first_holiday how.known.years → hours_cost read.hours ≤ most_basic_domains
-    → IsHoursOf how text given
-is_kept how text read given reads kept hours form holiday few = record {
+    → given.text.items ≡ text → given.read ≡ read → given.years ≡ how.options.known.years
+    → hours_cost read.hours ≤ most_basic_domains → IsHoursOf how text given
+is_kept how text read given reads kept same years few = record {
   kept = kept;
-  first = read.first_holiday;
-  reads = rw (hours, form) reads;
-  holiday = holiday;
-  few = rw hours few;
+  reads = subst (Reads how text) (sym same) reads;
+  years = years;
+  few = subst (λ (r : KnownHours). hours_cost r.hours ≤ most_basic_domains) (sym same) few;
 }
 
 -- why a text is not read stops its row
-pub unread_stops : (how : HowRead) (row : ℕ) (text : List ℕ) (why : KnownReadFault)
-    → IsKnownReadFaultIn how.manner how.known text why → IsTextStop how row text (unread row why)
-unread_stops how row text (reading.Fault (of_text.Hours bad)) is = (refl, is)
-unread_stops how row text (reading.Fault (of_text.Ambiguous place)) is = (refl, is)
-unread_stops how row text (reading.Fault (of_text.Holidays place)) is = (refl, is)
-unread_stops how row text (reading.Fault (of_text.Years place)) is = (refl, is)
-unread_stops how row text (reading.Fault (of_text.Uncovered place day)) is = (refl, is)
+pub unread_stops : (how : HowRead) (row : ℕ) (text : List ℕ) (why : OptionsReadFault)
+    → IsReadFaultWithIn how.manner how.options text why → IsTextStop how row text (unread row why)
+unread_stops how row text (reading.Fault bad) is = IsHoursFault.of_first bad is refl
 unread_stops how row text reading.NoMemory is = tt
 
 -- a text that is not empty is a column

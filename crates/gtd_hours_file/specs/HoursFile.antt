@@ -1,17 +1,21 @@
--- What a file of hours is, whose texts are read strictly or loosely and may have holidays: its rows, or all its faults.
+-- What a file of hours is, whose texts are read strictly or loosely and with options: its rows, or all its faults.
 use Rattle.std.specs.Prelude.{◌≡◌, ◌≢◌, ◌<◌, ◌≤◌, ◌⊎◌, ℕ, ◌+◌, List, [], ◌∷◌, ◌++◌, length, codes, Result, Ok, Err, Option}
 use Rattle.std.specs.Prelude.{Some, None, MatchOption}
 use Rattle.csv.specs.Reading.{default_config, records, strip_bom}
 use Rattle.gtd_core.specs.Limits.{most_basic_domains, most_file_bytes, most_rows}
 use Rattle.gtd_hours.specs.Cost.{hours_cost}
-use Rattle.gtd_hours_holidays.specs.declared.known_years.KnownYears.{KnownYears}
-use Rattle.gtd_hours_known.specs.Manners.{IsKnownReadFaultIn, IsKnownReadingIn}
+use Rattle.gtd_hours_grammar.specs.declared.fault.FaultKind.TheVariants as kind
+use Rattle.gtd_hours_moments.specs.declared.needs.NeedKind.{NeedKind}
+use Rattle.gtd_hours_moments.specs.declared.needs.NeedKind.TheVariants as need
 use Rattle.gtd_hours_known.specs.declared.fault.KnownFault.{KnownFault}
 use Rattle.gtd_hours_known.specs.declared.fault.KnownFault.TheVariants as of_text
-use Rattle.gtd_hours_known.specs.declared.fault.KnownReadFault.TheVariants as unread
-use Rattle.gtd_hours_known.specs.declared.known.Known.{Known}
 use Rattle.gtd_hours_known.specs.declared.known.KnownHours.{KnownHours}
 use Rattle.gtd_hours_loose.specs.declared.manner.Manner.{Manner}
+use Rattle.gtd_hours_options.specs.Manners.{IsReadFaultWithIn, IsReadingWithIn}
+use Rattle.gtd_hours_options.specs.declared.fault.OptionsFault.{OptionsFault}
+use Rattle.gtd_hours_options.specs.declared.fault.OptionsFault.TheVariants as with_options
+use Rattle.gtd_hours_options.specs.declared.fault.OptionsReadFault.TheVariants as unread
+use Rattle.gtd_hours_options.specs.declared.options.Options.{Options}
 use Rattle.gtd_records.specs.Columns.{Fields, IsOrdered, closed_of, number_of, vehicles_of}
 use Rattle.gtd_records.specs.declared.direction.Closed.{Closed}
 use Rattle.gtd_records.specs.declared.vehicles.Vehicles.{Vehicles}
@@ -20,49 +24,59 @@ use Rattle.gtd_hours_file.specs.declared.fault.HoursFileFault.{HoursFileFault}
 use Rattle.gtd_hours_file.specs.declared.fault.HoursFileFault.TheVariants as fault
 use Rattle.gtd_hours_file.specs.declared.hours_reading.HoursReading.{HoursReading}
 use Rattle.gtd_hours_file.specs.declared.row.HoursRow.{HoursRow}
-use Rattle.gtd_hours_file.specs.declared.row.KnownHoliday.{KnownHoliday}
 use Rattle.gtd_hours_file.specs.declared.row.RowHours.{RowHours}
 
--- How texts of hours are read: strictly or loosely, and with what is known of holidays.
+-- How texts of hours are read: strictly or loosely, with what is known of holidays, and with what is given for times.
 pub record HowRead : Type 0 where
   pub manner : Manner
-  pub known : Known
+  pub options : Options
 
 -- how a run is told to read them
 abbrev pub how_read : HoursReading → HowRead
-how_read told = record { manner = told.manner; known = told.known.now }
+how_read told = record { manner = told.manner; options = told.options.now }
 
 -- these hours are read of a text
 abbrev pub Reads : HowRead → List ℕ → KnownHours → Type 0
-Reads how text read = IsKnownReadingIn how.manner how.known text read
+Reads how text read = IsReadingWithIn how.manner how.options text read
 
 -- the text has this first fault
-abbrev pub HasFault : HowRead → List ℕ → KnownFault → Type 0
-HasFault how text bad = IsKnownReadFaultIn how.manner how.known text (unread.Fault bad)
+abbrev pub HasFault : HowRead → List ℕ → OptionsFault → Type 0
+HasFault how text bad = IsReadFaultWithIn how.manner how.options text (unread.Fault bad)
 
--- what is wrong with a text of hours in the row with this number: its first fault; or hours are read of it whose domain has too
--- many basic domains
-abbrev pub IsHoursFault : HowRead → ℕ → List ℕ → HoursFileFault → Type 0
-IsHoursFault how row text (fault.Hours at why) = (at ≡ row) × HasFault how text (of_text.Hours why)
-IsHoursFault how row text (fault.Ambiguous at place) = (at ≡ row) × HasFault how text (of_text.Ambiguous place)
-IsHoursFault how row text (fault.Holidays at place) = (at ≡ row) × HasFault how text (of_text.Holidays place)
-IsHoursFault how row text (fault.Years at place) = (at ≡ row) × HasFault how text (of_text.Years place)
-IsHoursFault how row text (fault.Uncovered at place day) = (at ≡ row) × HasFault how text (of_text.Uncovered place day)
-IsHoursFault how row text (fault.TooMany at) =
-    (at ≡ row) × (read : KnownHours) × Reads how text read × (most_basic_domains < hours_cost read.hours)
-IsHoursFault how row text why = ⊥
+-- ---- faults of texts, in the row with this number
 
--- where the first holiday of a text stands, and the years in which holidays are known; nothing, if it has none
-abbrev pub known_holiday : Option ℕ → Option KnownYears → Option KnownHoliday
-known_holiday (Some place) (Some years) = Some (record { place = place; years = years })
-known_holiday first years = None
+abbrev pub known_fault : ℕ → KnownFault → HoursFileFault
+known_fault row (of_text.Hours why) = fault.Hours row why
+known_fault row (of_text.Ambiguous place) = fault.Ambiguous row place
+known_fault row (of_text.Holidays place) = fault.Holidays row place
+known_fault row (of_text.Years place) = fault.Years row place
+known_fault row (of_text.Uncovered place day) = fault.Uncovered row place day
+known_fault row (of_text.Unknown place) = fault.Unknown row place
 
--- The text, the hours that are read of it, whose domain has few enough basic domains, and its first holiday.
+abbrev pub need_fault : ℕ → NeedKind → ℕ → HoursFileFault
+need_fault row need.SunTime place = fault.SunTime row place
+need_fault row need.Range place = fault.Hours row (record { kind = kind.Range; place = place })
+need_fault row need.OpenEnd place = fault.OpenEnd row place
+need_fault row need.Point place = fault.Point row place
+
+abbrev pub text_fault : ℕ → OptionsFault → HoursFileFault
+text_fault row (with_options.Known bad) = known_fault row bad
+text_fault row (with_options.Time bad) = need_fault row bad.kind bad.place
+
+-- What is wrong with a text of hours in the row with this number: its first fault; or hours are read of it whose domain has too
+-- many basic domains.
+pub data IsHoursFault (how : HowRead) (row : ℕ) (text : List ℕ) (why : HoursFileFault) : Type 0 where
+  of_first : (bad : OptionsFault) → HasFault how text bad → why ≡ text_fault row bad → IsHoursFault how row text why
+  of_many : (read : KnownHours) → Reads how text read → most_basic_domains < hours_cost read.hours → why ≡ fault.TooMany row
+      → IsHoursFault how row text why
+
+-- ---- columns and rows
+
+-- The text, the hours that are read of it, whose domain has few enough basic domains, and the years in which holidays are known.
 pub record IsHoursOf (how : HowRead) (text : List ℕ) (given : RowHours) : Type 0 where
   pub kept : given.text.items ≡ text
-  pub first : Option ℕ
-  pub reads : Reads how text (record { hours = given.read.hours; form = given.read.form; first_holiday = first })
-  pub holiday : given.holiday ≡ known_holiday first how.known.years
+  pub reads : Reads how text given.read
+  pub years : given.years ≡ how.options.known.years
   pub few : hours_cost given.read.hours ≤ most_basic_domains
 
 -- The last column of a row: no hours if it is empty, and otherwise those of its bytes; or what is wrong with them.

@@ -43,6 +43,10 @@ fault_text (fault.Holidays row place) = codes "row " ++ (decimal row ++ (codes "
 fault_text (fault.Years row place) = codes "row " ++ (decimal row ++ (codes ": Hours Years at " ++ decimal place))
 fault_text (fault.Uncovered row place day) =
     codes "row " ++ (decimal row ++ (codes ": Hours " ++ uncovered_text place day))
+fault_text (fault.Unknown row place) = codes "row " ++ (decimal row ++ (codes ": Hours Unknown at " ++ decimal place))
+fault_text (fault.OpenEnd row place) = codes "row " ++ (decimal row ++ (codes ": Hours OpenEnd at " ++ decimal place))
+fault_text (fault.Point row place) = codes "row " ++ (decimal row ++ (codes ": Hours Point at " ++ decimal place))
+fault_text (fault.SunTime row place) = codes "row " ++ (decimal row ++ (codes ": Hours SunTime at " ++ decimal place))
 fault_text (fault.TooMany row) = codes "row " ++ decimal row ++ codes ": Hours TooMany at 0"
 fault_text fault.TooManyRows = codes "row 65537: TooManyRows"
 
@@ -63,6 +67,10 @@ IsSnippet bytes (fault.Ambiguous row place) shown = IsOfField (field_of bytes ro
 IsSnippet bytes (fault.Holidays row place) shown = IsOfField (field_of bytes row 3) place shown
 IsSnippet bytes (fault.Years row place) shown = IsOfField (field_of bytes row 3) place shown
 IsSnippet bytes (fault.Uncovered row place day) shown = IsOfField (field_of bytes row 3) place shown
+IsSnippet bytes (fault.Unknown row place) shown = IsOfField (field_of bytes row 3) place shown
+IsSnippet bytes (fault.OpenEnd row place) shown = IsOfField (field_of bytes row 3) place shown
+IsSnippet bytes (fault.Point row place) shown = IsOfField (field_of bytes row 3) place shown
+IsSnippet bytes (fault.SunTime row place) shown = IsOfField (field_of bytes row 3) place shown
 IsSnippet bytes (fault.TooMany row) shown = IsOfField (field_of bytes row 3) 0 shown
 IsSnippet bytes fault.Header shown = IsOfHeader (first_line bytes) expected_text None shown
 IsSnippet bytes why shown = shown ≡ snippet.Nothing
@@ -90,6 +98,20 @@ accepted_years = codes "the years in which holidays are known: give them with --
 abbrev pub accepted_cover : List ℕ
 accepted_cover = codes "a table with all holidays of these years, and rows that say so: PH-covered or SH-covered"
 
+-- where rules may be unknown
+abbrev pub accepted_known : List ℕ
+accepted_known = codes "what is known: a rule can be unknown only behind ||, with no other fallback rule behind it"
+
+-- what is to be given where hours have times of other forms
+abbrev pub accepted_end : List ℕ
+accepted_end = codes "the clock time of an open end, at most 24 hours later: give it with --open-end HH:MM"
+
+abbrev pub accepted_point : List ℕ
+accepted_point = codes "how many minutes a point of time lasts: give it with --points N"
+
+abbrev pub accepted_sun : List ℕ
+accepted_sun = codes "the clock time of an event of the sun: give it with --sunrise, --sunset, --dawn or --dusk HH:MM"
+
 abbrev pub accepted_size : List ℕ
 accepted_size = codes "hours that take at most 128 basic domains"
 
@@ -104,6 +126,10 @@ accepted (fault.Ambiguous row place) = Some accepted_once
 accepted (fault.Holidays row place) = Some accepted_table
 accepted (fault.Years row place) = Some accepted_years
 accepted (fault.Uncovered row place day) = Some accepted_cover
+accepted (fault.Unknown row place) = Some accepted_known
+accepted (fault.OpenEnd row place) = Some accepted_end
+accepted (fault.Point row place) = Some accepted_point
+accepted (fault.SunTime row place) = Some accepted_sun
 accepted (fault.TooMany row) = Some accepted_size
 accepted fault.TooManyRows = Some accepted_rows
 accepted fault.TooLarge = Some accepted_bytes
@@ -124,6 +150,10 @@ row_of (fault.Ambiguous row place) = Some row
 row_of (fault.Holidays row place) = Some row
 row_of (fault.Years row place) = Some row
 row_of (fault.Uncovered row place day) = Some row
+row_of (fault.Unknown row place) = Some row
+row_of (fault.OpenEnd row place) = Some row
+row_of (fault.Point row place) = Some row
+row_of (fault.SunTime row place) = Some row
 row_of (fault.TooMany row) = Some row
 row_of fault.TooManyRows = Some (most_rows + 1)
 row_of why = None

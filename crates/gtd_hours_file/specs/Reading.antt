@@ -1,28 +1,16 @@
 -- What reading a text of hours, a column or a row gave.
 use Rattle.std.specs.Prelude.{ℕ, List, Option, Result, Ok, Err, ⊤}
-use Rattle.gtd_hours_known.specs.declared.fault.KnownFault.{KnownFault}
-use Rattle.gtd_hours_known.specs.declared.fault.KnownFault.TheVariants as of_text
-use Rattle.gtd_hours_known.specs.declared.fault.KnownReadFault.{KnownReadFault}
-use Rattle.gtd_hours_known.specs.declared.fault.KnownReadFault.TheVariants as reading
+use Rattle.gtd_hours_options.specs.declared.fault.OptionsReadFault.{OptionsReadFault}
+use Rattle.gtd_hours_options.specs.declared.fault.OptionsReadFault.TheVariants as reading
 use Rattle.gtd_records.specs.Columns.{Fields}
-use Rattle.gtd_hours_file.specs.HoursFile.{HowRead, IsHoursColumn, IsHoursFault, IsRow}
-use Rattle.gtd_hours_file.specs.declared.fault.HoursFileFault.{HoursFileFault}
-use Rattle.gtd_hours_file.specs.declared.fault.HoursFileFault.TheVariants as fault
+use Rattle.gtd_hours_file.specs.HoursFile.{HowRead, IsHoursColumn, IsHoursFault, IsRow, text_fault}
 use Rattle.gtd_hours_file.specs.declared.row.HoursRow.{HoursRow}
 use Rattle.gtd_hours_file.specs.declared.row.RowHours.{RowHours}
 use Rattle.gtd_hours_file.specs.declared.row.RowStop.{RowStop}
 use Rattle.gtd_hours_file.specs.declared.row.RowStop.TheVariants as stop
 
--- the first fault of a text, in the row with this number
-abbrev pub text_fault : ℕ → KnownFault → HoursFileFault
-text_fault row (of_text.Hours why) = fault.Hours row why
-text_fault row (of_text.Ambiguous place) = fault.Ambiguous row place
-text_fault row (of_text.Holidays place) = fault.Holidays row place
-text_fault row (of_text.Years place) = fault.Years row place
-text_fault row (of_text.Uncovered place day) = fault.Uncovered row place day
-
 -- why a text is not read, in the row with this number
-abbrev pub unread : ℕ → KnownReadFault → RowStop
+abbrev pub unread : ℕ → OptionsReadFault → RowStop
 unread row (reading.Fault why) = stop.Fault (text_fault row why)
 unread row reading.NoMemory = stop.NoMemory
 

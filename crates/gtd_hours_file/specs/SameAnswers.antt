@@ -2,8 +2,8 @@
 use Rattle.std.specs.Prelude.{◌≡◌, ◌↔◌, ◌⊎◌, ◌≤◌, ℕ, ℤ, List, [], ◌∷◌, length, Option, Some, None, Result, Ok, Err, ⊤}
 use Rattle.gtd_hours.specs.Cost.{hours_cost}
 use Rattle.gtd_hours.specs.Opening.{IsOpen}
-use Rattle.gtd_hours_known.specs.declared.fault.KnownFault.{KnownFault}
 use Rattle.gtd_hours_known.specs.declared.known.KnownHours.{KnownHours}
+use Rattle.gtd_hours_options.specs.declared.fault.OptionsFault.{OptionsFault}
 use Rattle.gtd_records.specs.Closing.{HoldsAt, Restriction}
 use Rattle.gtd_hours_file.specs.HoursFile.{HasFault, HowRead, Reads}
 use Rattle.gtd_hours_file.specs.declared.fault.HoursFileFault.{HoursFileFault}
@@ -17,13 +17,13 @@ pub record AreReadInOneWay (how : HowRead) : Type 0 where
       → (s : ℤ) → IsOpen one.hours s ↔ IsOpen other.hours s
   pub cost : (text : List ℕ) (one other : KnownHours) → Reads how text one → Reads how text other
       → hours_cost one.hours ≡ hours_cost other.hours
-  pub fault : (text : List ℕ) (one other : KnownFault) → HasFault how text one → HasFault how text other → one ≡ other
-  pub apart : (text : List ℕ) (read : KnownHours) (bad : KnownFault) → Reads how text read → HasFault how text bad → ⊥
+  pub fault : (text : List ℕ) (one other : OptionsFault) → HasFault how text one → HasFault how text other → one ≡ other
+  pub apart : (text : List ℕ) (read : KnownHours) (bad : OptionsFault) → Reads how text read → HasFault how text bad → ⊥
 
 -- each text of at most so many bytes is read, or has a first fault
 abbrev pub IsEachRead : HowRead → ℕ → Type 0
 IsEachRead how most = (text : List ℕ) → length text ≤ most
-    → ((read : KnownHours) × Reads how text read) ⊎ ((bad : KnownFault) × HasFault how text bad)
+    → ((read : KnownHours) × Reads how text read) ⊎ ((bad : OptionsFault) × HasFault how text bad)
 
 -- both rows have no hours, or both have some, which are open at the same seconds
 abbrev pub AreSameHours : Option RowHours → Option RowHours → Type 0

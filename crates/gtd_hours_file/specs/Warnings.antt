@@ -9,13 +9,11 @@ use Rattle.gtd_hours.specs.declared.hours.Hours.{Hours}
 use Rattle.gtd_hours.specs.declared.hours.Modifier.{Modifier}
 use Rattle.gtd_hours.specs.declared.hours.Modifier.TheVariants.{Open, Closed}
 use Rattle.gtd_hours.specs.declared.hours.Rule.{Rule}
-use Rattle.gtd_hours_loose.specs.declared.reader.LooseHours.{LooseHours}
 use Rattle.gtd_hours_warnings.specs.Lines.{warning_lines}
-use Rattle.gtd_hours_warnings.specs.Warnings as of_text
+use Rattle.gtd_hours_warnings.specs.Marks.{AreWarningsWith}
 use Rattle.gtd_hours_warnings.specs.declared.warnings.Warning.{Warning}
 use Rattle.gtd_hours_file.specs.HoursFile.{HowRead, IsHoursFile}
 use Rattle.gtd_hours_file.specs.declared.row.HoursRow.{HoursRow}
-use Rattle.gtd_hours_file.specs.declared.row.KnownHoliday.{KnownHoliday}
 use Rattle.gtd_hours_file.specs.declared.row.RowHours.{RowHours}
 use Rattle.gtd_hours_file.specs.declared.translated.Translated.{Translated}
 use Rattle.gtd_hours_file.specs.declared.untranslated.Untranslated.{Untranslated}
@@ -52,16 +50,10 @@ abbrev pub before_warning : List ℕ → ℕ → ℕ → List ℕ
 before_warning path line row =
     printable path ++ (codes ":" ++ (decimal line ++ (codes ": row " ++ (decimal row ++ codes ": warning Hours "))))
 
--- The warnings of a text from which these hours are read: those of any text; or, if it has holidays, where it is written
--- loosely, and at the first holiday the years in which they are known.
-abbrev pub AreTextWarnings : Option KnownHoliday → List ℕ → LooseHours → List Warning → Type 0
-AreTextWarnings None text read found = of_text.AreWarnings text read found
-AreTextWarnings (Some first) text read found = of_text.AreHolidayWarnings text read.form first.place first.years found
-
 -- the warnings of a row's hours; a row without hours has none
 abbrev pub AreHoursWarnings : Option RowHours → List Warning → Type 0
 AreHoursWarnings None found = found ≡ []
-AreHoursWarnings (Some given) found = AreTextWarnings given.holiday given.text.items given.read found
+AreHoursWarnings (Some given) found = AreWarningsWith given.text.items given.read given.years found
 
 -- ---- all
 

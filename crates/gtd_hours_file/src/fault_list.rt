@@ -28,6 +28,10 @@ fn row_of(fault: HoursFileFault) -> Option<u32>
         HoursFileFault::Holidays { row, .. } => Some(row),
         HoursFileFault::Years { row, .. } => Some(row),
         HoursFileFault::Uncovered { row, .. } => Some(row),
+        HoursFileFault::Unknown { row, .. } => Some(row),
+        HoursFileFault::OpenEnd { row, .. } => Some(row),
+        HoursFileFault::Point { row, .. } => Some(row),
+        HoursFileFault::SunTime { row, .. } => Some(row),
         HoursFileFault::TooMany { row } => Some(row),
         HoursFileFault::TooManyRows => Some(MOST_ROWS + 1),
     }
@@ -54,6 +58,10 @@ fn fault_snippet<'a>(bytes: &'a [u8], rows: &'a Rows<'_>, fault: HoursFileFault)
         HoursFileFault::Holidays { place, .. } => rows.field(3, place),
         HoursFileFault::Years { place, .. } => rows.field(3, place),
         HoursFileFault::Uncovered { place, .. } => rows.field(3, place),
+        HoursFileFault::Unknown { place, .. } => rows.field(3, place),
+        HoursFileFault::OpenEnd { place, .. } => rows.field(3, place),
+        HoursFileFault::Point { place, .. } => rows.field(3, place),
+        HoursFileFault::SunTime { place, .. } => rows.field(3, place),
         HoursFileFault::TooMany { .. } => rows.field(3, 0),
         _ => Snippet::Nothing,
     }

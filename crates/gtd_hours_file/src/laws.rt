@@ -20,8 +20,8 @@ ghost use Rattle.gtd_hours_file.specs.declared.row.HoursRow.{HoursRow};
 
 use gtd_hours_grammar::laws::one_first_fault;
 use gtd_hours_holiday_rules::laws::one_holiday_text;
-use gtd_hours_known::laws::plain_readings;
-use gtd_hours_loose::laws::one_reading;
+use gtd_hours_moments::laws::{one_moment_text, one_reading as one_list_of_times};
+use gtd_hours_options::laws::readings_without_times;
 use gtd_hours_tokens::laws::one_reading as one_list_of_tokens;
 use gtd_migrate::laws::migrated_is_accepted;
 use gtd_text::laws::canonical_text_of_domain;
@@ -59,15 +59,16 @@ pub fn one_answer()
         → IsTranslation ones found → IsTranslation others also → AreSameRestrictions found also }
 {}
 
-/// Without a table of holidays texts are read in one way.
+/// Without a table of holidays texts are read in one way, whatever is given for times.
 pub fn one_way()
-    ensures without { (how : HowRead) → how.known.holidays ≡ None → AreReadInOneWay how }
+    ensures without { (how : HowRead) → how.options.known.holidays ≡ None → AreReadInOneWay how }
 {
-    one_reading();
-    plain_readings();
     one_first_fault();
     one_holiday_text();
     one_list_of_tokens();
+    one_list_of_times();
+    one_moment_text();
+    readings_without_times();
 }
 
 /// Where each text is read or has a fault, each file of hours has an answer, if memory has room for its texts: its rows, or all

@@ -11,7 +11,7 @@ pub use hours_reading::HoursReading;
 pub use refused::{
     RefusalSnippet, ambiguous_snippet, domain_snippet, hours_snippet, too_many_snippet,
 };
-pub use row::{HoursRow, KnownHoliday, RowHours};
+pub use row::{HoursRow, RowHours};
 pub use run::run_hours_records;
 pub use translated::Translated;
 pub use untranslated::Untranslated;

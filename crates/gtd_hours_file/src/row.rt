@@ -12,22 +12,15 @@ use crate::hours_reading::HoursReading;
 use csv::ByteRecord;
 use gtd_core::limits::MOST_BASIC_DOMAINS;
 use gtd_hours_domain::cost_of;
+use gtd_hours_grammar::{FaultKind, HoursFault};
 use gtd_hours_holidays::KnownYears;
-use gtd_hours_known::{KnownFault, KnownHours, KnownReadFault, read_known_hours_in};
-use gtd_hours_loose::LooseHours;
+use gtd_hours_known::{KnownFault, KnownHours};
+use gtd_hours_moments::NeedKind;
+use gtd_hours_options::{OptionsFault, OptionsReadFault, read_hours_with_in};
 use gtd_records::{
     Closed, Vehicles, Version, four_columns, read_closed, read_number, read_vehicles,
 };
 use std::alloc::{AllocError, Global};
-
-/// The first holiday of a text, and the years in which holidays are known.
-#[derive(Clone, Copy)]
-pub struct KnownHoliday {
-    /// The number of bytes before the holiday.
-    pub place: usize,
-    /// The years.
-    pub years: KnownYears,
-}
 
 /// The hours of a row.
 #[derive(Drop)]
@@ -35,9 +28,9 @@ pub struct RowHours {
     /// Their text.
     pub text: Vec<u8>,
     /// What is read of it.
-    pub read: LooseHours,
-    /// Its first holiday, if it has one.
-    pub holiday: Option<KnownHoliday>,
+    pub read: KnownHours,
+    /// The years in which holidays are known, if they are given.
+    pub years: Option<KnownYears>,
 }
 
 /// A row of a file of hours: what it closes, and when.
@@ -73,9 +66,9 @@ impl From<AllocError> for RowStop {
     }
 }
 
-// The fault of a text of hours, in the row with this number.
-fn text_fault(number: u32, why: KnownFault) -> HoursFileFault
-    ensures { result ≡ spec.text_fault number why }
+// A fault of the words of a text of hours, in the row with this number.
+fn known_fault(number: u32, why: KnownFault) -> HoursFileFault
+    ensures { result ≡ file_spec.known_fault number why }
 {
     match why {
         KnownFault::Hours(fault) => HoursFileFault::Hours { row: number, fault },
@@ -87,29 +80,45 @@ fn text_fault(number: u32, why: KnownFault) -> HoursFileFault
             place,
             day,
         },
+        KnownFault::Unknown { place } => HoursFileFault::Unknown { row: number, place },
+    }
+}
+
+// What the times of a text need or where one lasts too long, in the row with this number.
+fn need_fault(number: u32, kind: NeedKind, place: usize) -> HoursFileFault
+    ensures { result ≡ file_spec.need_fault number kind place }
+{
+    match kind {
+        NeedKind::SunTime => HoursFileFault::SunTime { row: number, place },
+        NeedKind::Range => HoursFileFault::Hours {
+            row: number,
+            fault: HoursFault {
+                kind: FaultKind::Range,
+                place,
+            },
+        },
+        NeedKind::OpenEnd => HoursFileFault::OpenEnd { row: number, place },
+        NeedKind::Point => HoursFileFault::Point { row: number, place },
+    }
+}
+
+// The fault of a text of hours, in the row with this number.
+fn text_fault(number: u32, why: OptionsFault) -> HoursFileFault
+    ensures { result ≡ file_spec.text_fault number why }
+{
+    match why {
+        OptionsFault::Known(bad) => known_fault(number, bad),
+        OptionsFault::Time(bad) => need_fault(number, bad.kind, bad.place),
     }
 }
 
 // Why a text of hours is not read, in the row with this number.
-fn unread(number: u32, why: KnownReadFault) -> RowStop
+fn unread(number: u32, why: OptionsReadFault) -> RowStop
     ensures { result ≡ spec.unread number why }
 {
     match why {
-        KnownReadFault::Fault(why) => RowStop::Fault(text_fault(number, why)),
-        KnownReadFault::NoMemory => RowStop::NoMemory,
-    }
-}
-
-// The first holiday of a text, if it has one, and the years in which holidays are known.
-fn known_holiday(first: Option<usize>, years: Option<KnownYears>) -> Option<KnownHoliday>
-    ensures { result ≡ file_spec.known_holiday first years }
-{
-    match first {
-        Some(place) => match years {
-            Some(years) => Some(KnownHoliday { place, years }),
-            None => None,
-        },
-        None => None,
+        OptionsReadFault::Fault(why) => RowStop::Fault(text_fault(number, why)),
+        OptionsReadFault::NoMemory => RowStop::NoMemory,
     }
 }
 
@@ -121,19 +130,15 @@ fn kept(
     years: Option<KnownYears>,
 ) -> Result<RowHours, AllocError>
     ensures text { IfOk result (λ given. given.text.items ≡ text.now) }
-    ensures hours { IfOk result (λ given. given.read.hours ≡ read.hours) }
-    ensures form { IfOk result (λ given. given.read.form ≡ read.form) }
-    ensures holiday { IfOk result (λ given. given.holiday ≡ file_spec.known_holiday read.first_holiday years) }
+    ensures read { IfOk result (λ given. given.read ≡ read) }
+    ensures years { IfOk result (λ given. given.years ≡ years) }
 {
     let mut text_of = Vec::new(alloc);
     text_of.extend_from_slice(text)?;
     Ok(RowHours {
         text: text_of,
-        holiday: known_holiday(read.first_holiday, years),
-        read: LooseHours {
-            hours: read.hours,
-            form: read.form,
-        },
+        read,
+        years,
     })
 }
 
@@ -147,14 +152,14 @@ fn read_text(
     ensures hours { IfOk result (IsHoursOf (how_read reading.entry) text.now) }
     ensures stop { IfErr result (IsTextStop (how_read reading.entry) number text.now) }
 {
-    let read = match read_known_hours_in(alloc, text, reading.manner, reading.known) {
+    let read = match read_hours_with_in(alloc, text, reading.manner, reading.options) {
         Ok(read) => read,
         Err(why) => return Err(unread(number, why)),
     };
     if cost_of(&read.hours) > u32::from(MOST_BASIC_DOMAINS) {
         return Err(RowStop::Fault(HoursFileFault::TooMany { row: number }));
     }
-    match kept(alloc, text, read, reading.known.years) {
+    match kept(alloc, text, read, reading.options.known.years) {
         Ok(given) => Ok(given),
         Err(_) => Err(RowStop::NoMemory),
     }

@@ -136,9 +136,10 @@ fn put_file<O: Output>(
 }
 
 /// Puts the record file of version 2 that a file of hours stands for, which an input brings and whose texts are read in this
-/// manner and with what is known of holidays: its rows in their order, each with the canonical text of a domain that contains
-/// exactly the seconds at which its hours are open, and with none if it has no hours. Answers the number of lines, the header
-/// included, and the warnings of the rows: where a text of hours is written loosely; in which years its holidays are known, or
+/// manner, with what is known of holidays, and with what is given for times: its rows in their order, each with the canonical
+/// text of a domain that contains exactly the seconds at which its hours are open, and with none if it has no hours. Answers the
+/// number of lines, the header included, and the warnings of the rows: where a text of hours is written loosely; which comments
+/// stand on open rules without a word that says so; which fallback rules are unknown; in which years its holidays are known, or
 /// else which of its rules hide hours; and that no rule opens.
 ///
 /// Errors, in their order: `ReadFault`, `Endless` or `NoMemory` while the input is read; `Faults` if the file is at fault,

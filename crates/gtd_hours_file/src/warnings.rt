@@ -3,15 +3,13 @@
 ghost use Rattle.std.specs.Prelude.{◌≡◌, ◌↔◌, ◌≤◌, IfOk, IsTrue, length, string_bytes};
 ghost use Rattle.gtd_core.specs.Limits.{most_rows};
 ghost use Rattle.gtd_hours_file.specs.Warnings as spec;
-ghost use Rattle.gtd_hours_file.specs.Warnings.{AreHoursWarnings, AreRowLines, AreTextWarnings, AreWarnings, ClosesNever};
-ghost use Rattle.gtd_hours_file.specs.Warnings.{before_warning, never_line};
+ghost use Rattle.gtd_hours_file.specs.Warnings.{AreHoursWarnings, AreRowLines, AreWarnings, ClosesNever, before_warning};
+ghost use Rattle.gtd_hours_file.specs.Warnings.{never_line};
 
 use crate::row::{HoursRow, RowHours};
 use gtd_faults::{Printable, Rows};
 use gtd_hours::{Hours, Modifier, Rule};
-use gtd_hours_warnings::{
-    Warning, holiday_warnings_of, push_lines, warnings_of as warnings_of_text,
-};
+use gtd_hours_warnings::{Warning, push_lines, warnings_with};
 use std::alloc::{AllocError, Global};
 
 // Whether a rule opens.
@@ -72,28 +70,12 @@ fn before_warning(alloc: Global, path: &str, line: u64, row: u32) -> Result<Stri
     Ok(text)
 }
 
-// The warnings of a text of hours: those of any text, or, if it has holidays, where it is written loosely and the years.
-fn text_warnings(alloc: Global, given: &RowHours) -> Result<Vec<Warning>, AllocError>
-    ensures { IfOk result (λ found. AreTextWarnings given.now.holiday given.now.text.items given.now.read found.items) }
-{
-    match given.holiday {
-        Some(first) => holiday_warnings_of(
-            alloc,
-            given.text.as_slice(),
-            &given.read.form,
-            first.place,
-            first.years,
-        ),
-        None => warnings_of_text(alloc, given.text.as_slice(), &given.read),
-    }
-}
-
 // The warnings of a row's hours.
 fn hours_warnings(alloc: Global, hours: &Option<RowHours>) -> Result<Vec<Warning>, AllocError>
     ensures { IfOk result (λ found. AreHoursWarnings hours.now found.items) }
 {
     match hours {
-        Some(given) => text_warnings(alloc, given),
+        Some(given) => warnings_with(alloc, given.text.as_slice(), &given.read, given.years),
         None => Ok(Vec::new(alloc)),
     }
 }

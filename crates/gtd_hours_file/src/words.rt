@@ -81,6 +81,18 @@ impl Display for HoursFaultText {
                 let uncovered = UncoveredText { place, day };
                 write!(f, "row {row}: Hours {uncovered}")
             }
+            HoursFileFault::Unknown { row, place } => {
+                write!(f, "row {row}: Hours Unknown at {place}")
+            }
+            HoursFileFault::OpenEnd { row, place } => {
+                write!(f, "row {row}: Hours OpenEnd at {place}")
+            }
+            HoursFileFault::Point { row, place } => {
+                write!(f, "row {row}: Hours Point at {place}")
+            }
+            HoursFileFault::SunTime { row, place } => {
+                write!(f, "row {row}: Hours SunTime at {place}")
+            }
             HoursFileFault::TooMany { row } => write!(f, "row {row}: Hours TooMany at 0"),
             HoursFileFault::TooManyRows => write!(f, "row 65537: TooManyRows"),
         }
@@ -128,6 +140,22 @@ pub fn accepted(fault: HoursFileFault) -> Option<&'static str>
         }
         HoursFileFault::Uncovered { .. } => Some(
             "a table with all holidays of these years, and rows that say so: PH-covered or SH-covered",
+        ),
+        HoursFileFault::Unknown { .. } => {
+            Some(
+                "what is known: a rule can be unknown only behind ||, with no other fallback rule behind it",
+            )
+        }
+        HoursFileFault::OpenEnd { .. } => {
+            Some(
+                "the clock time of an open end, at most 24 hours later: give it with --open-end HH:MM",
+            )
+        }
+        HoursFileFault::Point { .. } => {
+            Some("how many minutes a point of time lasts: give it with --points N")
+        }
+        HoursFileFault::SunTime { .. } => Some(
+            "the clock time of an event of the sun: give it with --sunrise, --sunset, --dawn or --dusk HH:MM",
         ),
         HoursFileFault::TooMany { .. } => Some("hours that take at most 128 basic domains"),
         HoursFileFault::TooManyRows => accepted_of_record(RecordFault::TooManyRows),

@@ -1,16 +1,21 @@
 -- A text has one reading, and its checked text has its length.
-use Rattle.std.proofs.Common.{◌≡◌, ◌∙◌, ℕ, zero, suc, ◌+◌, ◌-◌, List, [], ◌∷◌, length, Option, Some, None, map, refl, sym, ap}
-use Rattle.std.specs.Prelude.{drop, set}
+use Rattle.std.proofs.Common.{◌≡◌, ◌∙◌, ℕ, zero, suc, ◌+◌, ◌-◌, List, [], ◌∷◌, ◌++◌, length, Option, Some, None, map, refl, sym}
+use Rattle.std.proofs.Common.{Bool, true, false, ap, subst, inl, inr}
+use Rattle.std.specs.Prelude.{◌&&◌, drop, set}
+use Rattle.std.proofs.lemmas.Bool.{cases_order, false≢true}
 use Rattle.std.proofs.Math.ListN.{length-set}
-use Rattle.gtd_hours_tokens.specs.Lexing.{AreTokens, IsTokenFault}
+use Rattle.gtd_hours_tokens.specs.Lexing.{AreTokens, IsTokenFault, Reads}
+use Rattle.gtd_hours_tokens.specs.facts.TokenForms.{begins_inside, is_language, no_space}
 use Rattle.gtd_hours_tokens.specs.declared.token.Token.{Token}
-use Rattle.gtd_hours_holiday_rules.specs.Checked.{checked_text, first_or_space, form_of, put_over, written_over}
+use Rattle.gtd_hours_holiday_rules.specs.Checked.{checked_from, checked_text, first_or_space, form_of, put_over, written_over}
+use Rattle.gtd_hours_holiday_rules.specs.Comments.{IsBadPlace, are_whole, is_whole}
 use Rattle.gtd_hours_holiday_rules.specs.Items.{items_of}
 use Rattle.gtd_hours_holiday_rules.specs.Parts.{parts_of, told_of}
 use Rattle.gtd_hours_holiday_rules.specs.Reading.{HasParts, IsHolidayText}
 use Rattle.gtd_hours_holiday_rules.specs.Rules.{rules_of, said_by}
 use Rattle.gtd_hours_holiday_rules.specs.declared.parts.Part.{Part}
 use Rattle.gtd_hours_holiday_rules.specs.declared.text.HolidayText.{HolidayText}
+use Rattle.gtd_hours_holiday_rules.proofs.TokenLemmas.{left_true, right_true}
 
 length-put_over : (n : ℕ) (bytes : List ℕ) (place : ℕ) (form : List ℕ) → length (put_over n bytes place form) ≡ length bytes
 length-put_over zero bytes place form = refl
@@ -23,15 +28,15 @@ length-written_over : (bytes : List ℕ) (from to : ℕ) (form : Option (List �
 length-written_over bytes from to None = refl
 length-written_over bytes from to (Some form) = length-put_over (to - from) bytes from form
 
-length-checked_text : (bytes : List ℕ) (parts : List Part) → length (checked_text bytes parts) ≡ length bytes
-length-checked_text bytes [] = refl
-length-checked_text bytes (p ∷ parts) =
-    length-checked_text (written_over bytes p.item.from p.item.to (form_of p.role)) parts
-    ∙ length-written_over bytes p.item.from p.item.to (form_of p.role)
+length-checked_from : (text bytes : List ℕ) (parts : List Part) → length (checked_from text bytes parts) ≡ length bytes
+length-checked_from text bytes [] = refl
+length-checked_from text bytes (p ∷ parts) =
+    length-checked_from text (written_over bytes p.item.from p.item.to (form_of text p.item p.role)) parts
+    ∙ length-written_over bytes p.item.from p.item.to (form_of text p.item p.role)
 
 pub same_length : (text : List ℕ) (parts : List Part) (read : HolidayText) → HasParts text parts read
     → length read.checked.items ≡ length text
-same_length text parts read has = ap length has.checked ∙ length-checked_text text parts
+same_length text parts read has = ap length has.checked ∙ length-checked_from text text parts
 
 -- ---- one reading
 
@@ -60,7 +65,41 @@ module _ (one_list : (text : List ℕ) (one other : List Token) → AreTokens te
       ∙ ap (λ (ts : List Token). told_of (parts_in text ts)) (one_list text p.tokens q.tokens p.are q.are)
       ∙ sym q.has.told
 
+-- ---- no bad place
+
+both : (a b : Bool) → a ≡ true → b ≡ true → (a && b) ≡ true
+both true b e f = f
+both false b e f = absurd (false≢true e)
+
+-- tokens that a whole text begins with are whole
+whole_before : (text : List ℕ) (place : ℕ) (before tokens : List Token) (end : ℕ) → Reads text place before end
+    → Reads text place tokens (length text) → are_whole text tokens ≡ true → are_whole text before ≡ true
+whole_before text place [] tokens end h k whole = refl
+whole_before text place (t ∷ before) [] end h k whole =
+    absurd (no_space text t h.1 (k.1 t.from h.0.0 (begins_inside text t h.1)))
+whole_before text place (t ∷ before) (u ∷ tokens) end h k whole = elim (cases_order t.from u.from) [
+  | inl same ↦
+      let one : t ≡ u = (is_language text).one_token t u h.1 k.1 same in
+      both (is_whole text t) (are_whole text before)
+      (subst (λ (x : Token). is_whole text x ≡ true) (sym one) (left_true (is_whole text u) (are_whole text tokens) whole))
+      (whole_before text t.to before tokens end h.2
+      (subst (λ (x : Token). Reads text x.to tokens (length text)) (sym one) k.2)
+      (right_true (is_whole text u) (are_whole text tokens) whole))
+  | inr (inl less) ↦ absurd (no_space text t h.1 (k.0.1 t.from h.0.0 less))
+  | inr (inr more) ↦ absurd (no_space text u k.1 (h.0.1 u.from k.0.0 more))
+]
+
+last_whole : (text : List ℕ) (before : List Token) (comment : Token) → are_whole text (before ++ comment ∷ []) ≡ true
+    → is_whole text comment ≡ true
+last_whole text [] comment whole = left_true (is_whole text comment) true whole
+last_whole text (t ∷ before) comment whole =
+    last_whole text before comment (right_true (is_whole text t) (are_whole text (before ++ comment ∷ [])) whole)
+
 module _ (divided : (text : List ℕ) (tokens : List Token) (place : ℕ) → AreTokens text tokens → IsTokenFault text place
     → ⊥) where
-  pub no_fault : (text : List ℕ) (read : HolidayText) (place : ℕ) → IsHolidayText text read → IsTokenFault text place → ⊥
-  no_fault text read place p fault = divided text p.tokens place p.are fault
+  pub no_fault : (text : List ℕ) (read : HolidayText) (place : ℕ) → IsHolidayText text read → IsBadPlace text place → ⊥
+  no_fault text read place p (inl bad) = divided text p.tokens place p.are bad.fault
+  no_fault text read place p (inr bad) =
+      let whole = whole_before text 0 (bad.before ++ bad.comment ∷ []) p.tokens bad.comment.to bad.reads p.are p.whole in
+      let other : false ≡ true = sym bad.broken ∙ last_whole text bad.before bad.comment whole in
+      absurd (false≢true other)

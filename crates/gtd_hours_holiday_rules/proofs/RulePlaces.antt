@@ -5,7 +5,7 @@ use Rattle.std.specs.Prelude.{if◌then◌else◌}
 use Rattle.gtd_hours_days.specs.declared.listed.Listed.{Listed}
 use Rattle.gtd_hours_holiday_rules.specs.Reading.{HasParts}
 use Rattle.gtd_hours_holiday_rules.specs.Rules.{HavePlaces, Said, begins_rule, begun}
-use Rattle.gtd_hours_holiday_rules.specs.Rules.{link_of, or_also, rules_from, said_by, with_item}
+use Rattle.gtd_hours_holiday_rules.specs.Rules.{beginning_of, or_joined, rules_from, said_by, with_item}
 use Rattle.gtd_hours_holiday_rules.specs.declared.items.Item.{Item}
 use Rattle.gtd_hours_holiday_rules.specs.declared.parts.Part.{Part}
 use Rattle.gtd_hours_holiday_rules.specs.declared.role.Role.{Role}
@@ -27,6 +27,11 @@ item_placed text rule role.Unwritten item e = e
 item_placed text rule role.Doubtful item e = e
 item_placed text rule role.Misfit item e = e
 item_placed text rule (role.Begins link) item e = e
+item_placed text rule role.Fallback item e = e
+item_placed text rule role.UnknownWord item e = e
+item_placed text rule role.Silent item e = e
+item_placed text rule role.Remark item e = e
+item_placed text rule role.UnknownComment item e = e
 
 either : (b : Bool) (xs ys : List Said) → HavePlaces xs → HavePlaces ys → HavePlaces (if b then xs else ys)
 either true xs ys p q = p
@@ -36,7 +41,8 @@ rules_placed : (text : List ℕ) (rule : Said) (parts : List Part) → length ru
     → HavePlaces (rules_from text rule parts)
 rules_placed text rule [] e = (e, tt)
 rules_placed text rule (p ∷ parts) e =
-    either (begins_rule (link_of p.role)) _ _ (e, rules_placed text (begun (or_also (link_of p.role))) parts refl)
+    either (begins_rule (beginning_of p.role p.item)) _ _
+    (e, rules_placed text (begun (or_joined (beginning_of p.role p.item))) parts refl)
     (rules_placed text (with_item text rule p.role p.item) parts (item_placed text rule p.role p.item e))
 
 pub places : (text : List ℕ) (parts : List Part) (read : HolidayText) → HasParts text parts read

@@ -1,5 +1,5 @@
 -- What stands behind the items of a text.
-use Rattle.std.specs.Prelude.{ℕ, ◌==◌, true, false, if◌then◌else◌}
+use Rattle.std.specs.Prelude.{ℕ, ◌==◌, Bool, true, false, if◌then◌else◌}
 use Rattle.gtd_hours_days.specs.declared.listed.Listed.{Listed}
 use Rattle.gtd_hours_days.specs.declared.listed.Listed.TheVariants as listed
 use Rattle.gtd_hours_tokens.specs.declared.token.TokenKind.{TokenKind}
@@ -14,6 +14,11 @@ use Rattle.gtd_hours_holiday_rules.specs.declared.behind.Last.TheVariants as las
 use Rattle.gtd_hours_holiday_rules.specs.declared.behind.Position.{Position}
 use Rattle.gtd_hours_holiday_rules.specs.declared.role.Role.{Role}
 use Rattle.gtd_hours_holiday_rules.specs.declared.role.Role.TheVariants as role
+
+-- a comment that says something of its rule
+abbrev pub is_commented : Behind → Bool
+is_commented behind.Commented = true
+is_commented b = false
 
 abbrev pub after_leading : Behind → ℕ → Behind
 after_leading (behind.Led at) from = behind.Led at
@@ -72,14 +77,20 @@ after_token b kind.Colon = after_colon b
 after_token b k = b
 
 abbrev pub after_what : Behind → What → Behind
-after_what b (what.Holiday h) = b
 after_what b (what.Token k) = after_token b k
+after_what b w = b
 
 -- Behind an item with this role.
 abbrev pub behind_after : Behind → Role → Item → Behind
 behind_after b (role.Begins l) item = behind.Front
+behind_after b role.Fallback item = behind.Front
 behind_after b (role.Leading h) item = after_leading b item.from
 behind_after b (role.Listed h) item = after_listed b
+behind_after b role.Misfit item = b
+behind_after b role.Silent item = behind.Done
+behind_after b role.UnknownWord item = behind.Done
+behind_after b role.Remark item = behind.Commented
+behind_after b role.UnknownComment item = behind.Commented
 behind_after b r item = after_what b item.what
 
 -- ---- what the last item is
@@ -89,6 +100,9 @@ last_token kind.Comma = last.Comma
 last_token (kind.Number v d) = last.Unfinished
 last_token kind.Plus = last.Unfinished
 last_token kind.Dash = last.Unfinished
+last_token kind.Open = last.Modifier
+last_token kind.Closed = last.Modifier
+last_token kind.Week = last.NoComment
 last_token k = last.Other
 
 abbrev pub last_holiday : Listed → Last
@@ -98,6 +112,9 @@ last_holiday h = last.Other
 abbrev pub last_of : What → Last
 last_of (what.Token k) = last_token k
 last_of (what.Holiday h) = last_holiday h
+last_of what.Comment = last.NoComment
+last_of what.Unknown = last.Modifier
+last_of what.Fallback = last.Other
 
 abbrev pub front : Position
 front = record { behind = behind.Front; last = last.Other }

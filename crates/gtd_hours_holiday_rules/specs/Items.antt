@@ -1,5 +1,5 @@
--- The items of a text: its tokens, of which some are holidays, with the offsets that belong to them.
-use Rattle.std.specs.Prelude.{ℕ, zero, suc, ◌-◌, ◌&&◌, Bool, true, false, List, [], ◌∷◌, Option, Some, None, is_some}
+-- The items of a text: its tokens. Some are holidays, with the offsets that belong to them, comments, `||` or `unknown`.
+use Rattle.std.specs.Prelude.{ℕ, zero, suc, ◌-◌, ◌&&◌, ◌==◌, Bool, true, false, List, [], ◌∷◌, Option, Some, None, is_some}
 use Rattle.std.specs.Prelude.{bytes_eq, codes, drop, take, if◌then◌else◌}
 use Rattle.gtd_hours_days.specs.declared.listed.Listed.TheVariants as listed
 use Rattle.gtd_hours_tokens.specs.declared.token.Token.{Token}
@@ -7,6 +7,7 @@ use Rattle.gtd_hours_tokens.specs.declared.token.TokenKind.{TokenKind}
 use Rattle.gtd_hours_tokens.specs.declared.token.TokenKind.TheVariants as kind
 use Rattle.gtd_hours_holiday_rules.specs.Offsets.{Placed, later, offset_front}
 use Rattle.gtd_hours_holiday_rules.specs.declared.items.Item.{Item}
+use Rattle.gtd_hours_holiday_rules.specs.declared.items.What.{What}
 use Rattle.gtd_hours_holiday_rules.specs.declared.items.What.TheVariants as what
 
 -- From one place of a text up to but not including another.
@@ -27,6 +28,24 @@ is_public text token = is_word text token (codes "PH")
 abbrev pub is_school : List ℕ → Token → Bool
 is_school text token = is_word text token (codes "SH")
 
+-- The bytes begin with a quote (34).
+abbrev pub begins_quoted : List ℕ → Bool
+begins_quoted [] = false
+begins_quoted (byte ∷ bytes) = byte == 34
+
+-- The token is a comment.
+abbrev pub is_comment : List ℕ → Token → Bool
+is_comment text token = is_unread token.kind && begins_quoted (stretch text token.from token.to)
+
+-- What a token is that is no public holiday.
+abbrev pub what_of : List ℕ → Token → What
+what_of text token =
+    if is_school text token then what.Holiday listed.School
+    else if is_comment text token then what.Comment
+    else if is_word text token (codes "||") then what.Fallback
+    else if is_word text token (codes "unknown") then what.Unknown
+    else what.Token token.kind
+
 -- A public holiday, with the offset behind it if there is one.
 abbrev pub public_with : Token → Option Placed → Item
 public_with token None = record { what = what.Holiday (listed.Public (later 0)); from = token.from; to = token.to }
@@ -36,8 +55,7 @@ public_with token (Some (offset, to)) = record { what = what.Holiday (listed.Pub
 abbrev pub item_at : List ℕ → Token → List Token → Item
 item_at text token ts =
     if is_public text token then public_with token (offset_front ts)
-    else if is_school text token then record { what = what.Holiday listed.School; from = token.from; to = token.to }
-    else record { what = what.Token token.kind; from = token.from; to = token.to }
+    else record { what = what_of text token; from = token.from; to = token.to }
 
 -- How many of these belong to it: a sign, a number and `day`, or none.
 abbrev pub more_at : List ℕ → Token → List Token → ℕ

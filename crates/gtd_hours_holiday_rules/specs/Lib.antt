@@ -1,5 +1,6 @@
 pub mod Offsets
 pub mod Items
+pub mod Comments
 pub mod Coming
 pub mod Behind
 pub mod Roles

@@ -7,7 +7,7 @@ use Rattle.gtd_hours_holiday_rules.specs.declared.told.Instead.{Instead}
 use Rattle.gtd_hours_holiday_rules.specs.declared.told.Told.{Told}
 use Rattle.gtd_hours_holiday_rules.specs.Behind.{after, front}
 use Rattle.gtd_hours_holiday_rules.specs.Roles.{role_of}
-use Rattle.gtd_hours_holiday_rules.specs.Told.{instead_of}
+use Rattle.gtd_hours_holiday_rules.specs.Told.{instead_of, told_at}
 
 -- An item at a position, where these come behind it.
 abbrev pub part_at : Position → Item → List Item → Part
@@ -34,4 +34,4 @@ told_by place (Some instead) = record { at = place; instead = instead } ∷ []
 -- How faults at the items are told, from left to right.
 abbrev pub told_of : List Part → List Told
 told_of [] = []
-told_of (part ∷ parts) = told_by part.item.from part.instead ++ told_of parts
+told_of (part ∷ parts) = told_by (told_at part.role part.item) part.instead ++ told_of parts

@@ -1,12 +1,13 @@
 -- A text with holidays as plain hours and holidays.
-use Rattle.std.specs.Prelude.{ℕ, List, ◌≡◌, map}
-use Rattle.gtd_hours_tokens.specs.Lexing.{AreTokens, IsTokenFault}
+use Rattle.std.specs.Prelude.{ℕ, List, ◌≡◌, map, true}
+use Rattle.gtd_hours_tokens.specs.Lexing.{AreTokens}
 use Rattle.gtd_hours_tokens.specs.declared.token.Token.{Token}
 use Rattle.gtd_hours_holiday_rules.specs.declared.parts.Part.{Part}
 use Rattle.gtd_hours_holiday_rules.specs.declared.stop.NoHolidayText.{NoHolidayText}
 use Rattle.gtd_hours_holiday_rules.specs.declared.stop.NoHolidayText.TheVariants as stop
 use Rattle.gtd_hours_holiday_rules.specs.declared.text.HolidayText.{HolidayText}
 use Rattle.gtd_hours_holiday_rules.specs.Checked.{checked_text}
+use Rattle.gtd_hours_holiday_rules.specs.Comments.{IsBadPlace, are_whole}
 use Rattle.gtd_hours_holiday_rules.specs.Items.{items_of}
 use Rattle.gtd_hours_holiday_rules.specs.Parts.{parts_of, told_of}
 use Rattle.gtd_hours_holiday_rules.specs.Rules.{rules_of, said_by}
@@ -17,13 +18,14 @@ pub record HasParts (text : List ℕ) (parts : List Part) (read : HolidayText) :
   pub rules : map said_by read.rules.items ≡ rules_of text parts
   pub told : read.told.items ≡ told_of parts
 
--- The text, of these tokens, is so.
+-- The text, of these tokens, with comments that end, is so.
 pub record IsHolidayText (text : List ℕ) (read : HolidayText) : Type 0 where
   pub tokens : List Token
   pub are : AreTokens text tokens
+  pub whole : are_whole text tokens ≡ true
   pub has : HasParts text (parts_of (items_of text tokens)) read
 
--- Why it is not: a byte with which no token begins, or want of memory.
+-- Why it is not: a byte with which no token begins or a comment that is not whole, whichever stands first, or want of memory.
 abbrev pub IsNoHolidayText : List ℕ → NoHolidayText → Type 0
-IsNoHolidayText text (stop.BadToken place) = IsTokenFault text place
+IsNoHolidayText text (stop.BadToken place) = IsBadPlace text place
 IsNoHolidayText text stop.NoMemory = Unit {0}

@@ -1,5 +1,5 @@
 -- What becomes of an item, by what stands behind and before it.
-use Rattle.std.specs.Prelude.{Bool, true, false, List, if◌then◌else◌}
+use Rattle.std.specs.Prelude.{Bool, true, false, ◌&&◌, not, List, if◌then◌else◌}
 use Rattle.gtd_hours.specs.declared.hours.Link.TheVariants as link
 use Rattle.gtd_hours_days.specs.declared.listed.Listed.{Listed}
 use Rattle.gtd_hours_tokens.specs.declared.token.TokenKind.{TokenKind}
@@ -14,6 +14,7 @@ use Rattle.gtd_hours_holiday_rules.specs.declared.behind.Last.TheVariants as las
 use Rattle.gtd_hours_holiday_rules.specs.declared.behind.Position.{Position}
 use Rattle.gtd_hours_holiday_rules.specs.declared.role.Role.{Role}
 use Rattle.gtd_hours_holiday_rules.specs.declared.role.Role.TheVariants as role
+use Rattle.gtd_hours_holiday_rules.specs.Behind.{is_commented}
 use Rattle.gtd_hours_holiday_rules.specs.Coming.{begins, begins_month_days, is_holiday, is_number, is_time, is_weekday, is_year}
 use Rattle.gtd_hours_holiday_rules.specs.Coming.{leads}
 
@@ -81,10 +82,34 @@ token_role b l kind.Plus later = sign_role b
 token_role b l kind.Dash later = sign_role b
 token_role b l k later = role.Kept
 
--- What becomes of an item at a position, where these come behind it.
+-- A comment that says something of its rule: one with times, or of all days and times, is open, and others are unknown.
+abbrev pub remark_role : Behind → Role
+remark_role behind.Times = role.Remark
+remark_role behind.Done = role.Remark
+remark_role b = role.UnknownComment
+
+-- A comment directly behind `open`, `closed` or `unknown` says why; none stands directly behind `week` or another comment.
+abbrev pub comment_role : Behind → Last → Role
+comment_role b last.Modifier = role.Silent
+comment_role b last.NoComment = role.Misfit
+comment_role b l = remark_role b
+
+-- another rule can begin behind it
+abbrev pub separates : What → Bool
+separates (what.Token kind.Comma) = true
+separates (what.Token kind.Semicolon) = true
+separates what.Fallback = true
+separates w = false
+
+-- What becomes of an item at a position, where these come behind it and no comment on its rule stands before it.
 abbrev pub role_in : Position → What → List Item → Role
 role_in p (what.Holiday h) later = holiday_role p.behind p.last h later
 role_in p (what.Token k) later = token_role p.behind p.last k later
+role_in p what.Comment later = comment_role p.behind p.last
+role_in p what.Fallback later = role.Fallback
+role_in p what.Unknown later = role.UnknownWord
 
+-- What becomes of an item at a position. Behind a comment on a rule only another rule can begin.
 abbrev pub role_of : Position → Item → List Item → Role
-role_of p item later = role_in p item.what later
+role_of p item later =
+    if is_commented p.behind && not (separates item.what) then role.Misfit else role_in p item.what later

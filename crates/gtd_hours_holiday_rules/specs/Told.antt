@@ -1,5 +1,5 @@
 -- How faults of the checked text are told.
-use Rattle.std.specs.Prelude.{ℕ, ◌&&◌, ◌==◌, Bool, true, false, List, [], ◌∷◌, Option, Some, None, if◌then◌else◌}
+use Rattle.std.specs.Prelude.{ℕ, ◌+◌, ◌&&◌, ◌==◌, nat_lt, Bool, true, false, List, [], ◌∷◌, Option, Some, None, if◌then◌else◌}
 use Rattle.gtd_hours_grammar.specs.declared.fault.FaultKind.TheVariants as fault
 use Rattle.gtd_hours_grammar.specs.declared.fault.HoursFault.{HoursFault}
 use Rattle.gtd_hours_tokens.specs.declared.token.TokenKind.TheVariants as kind
@@ -18,6 +18,7 @@ use Rattle.gtd_hours_holiday_rules.specs.declared.told.HolidayFault.TheVariants 
 use Rattle.gtd_hours_holiday_rules.specs.declared.told.Instead.{Instead}
 use Rattle.gtd_hours_holiday_rules.specs.declared.told.Instead.TheVariants as instead
 use Rattle.gtd_hours_holiday_rules.specs.declared.told.Told.{Told}
+use Rattle.gtd_hours_holiday_rules.specs.Behind.{is_commented}
 use Rattle.gtd_hours_holiday_rules.specs.Coming.{begins, is_number, is_weekday}
 
 abbrev pub is_day : What → Bool
@@ -51,10 +52,23 @@ sign_fault l place later =
     else if is_public l && begins is_weekday later then record { kind = fault.Unsupported; place = first_place place later }
     else record { kind = fault.Unexpected; place = place }
 
+-- a word or a sign that is not read there
+abbrev pub is_foreign : What → Bool
+is_foreign (what.Token kind.Unsupported) = true
+is_foreign (what.Token kind.Plus) = true
+is_foreign w = false
+
+-- what is wrong at an item behind a comment on its rule
+abbrev pub commented_fault : Item → HoursFault
+commented_fault item =
+    if is_foreign item.what then record { kind = fault.Unsupported; place = item.from }
+    else record { kind = fault.Unexpected; place = item.from }
+
 -- What is wrong at an item that cannot stand where it does.
-abbrev pub misfit_fault : Last → Item → List Item → HoursFault
-misfit_fault l item later =
-    if is_sign item.what then sign_fault l item.from later else record { kind = fault.Unexpected; place = item.from }
+abbrev pub misfit_fault : Position → Item → List Item → HoursFault
+misfit_fault p item later =
+    if is_commented p.behind then commented_fault item
+    else if is_sign item.what then sign_fault p.last item.from later else record { kind = fault.Unexpected; place = item.from }
 
 -- a fault at a weekday behind leading holidays is told where these begin
 abbrev pub led_instead : Behind → What → Option Instead
@@ -64,8 +78,21 @@ led_instead b w = None
 -- How a fault at an item with this role is told, if not as it is.
 abbrev pub instead_of : Position → Role → Item → List Item → Option Instead
 instead_of p role.Doubtful item later = Some (instead.Ambiguous item.from)
-instead_of p role.Misfit item later = Some (instead.Fault (misfit_fault p.last item later))
+instead_of p role.Misfit item later = Some (instead.Fault (misfit_fault p item later))
+instead_of p role.Remark item later = Some (instead.Place item.from)
+instead_of p role.UnknownComment item later = Some (instead.Place item.from)
 instead_of p r item later = led_instead p.behind item.what
+
+-- the place behind the first byte of an item
+abbrev pub behind_first : Item → ℕ
+behind_first item = if nat_lt item.from item.to then item.from + 1 else item.from
+
+-- Where a fault at an item with this role stands in the checked text. The word for a comment of at least three bytes stands
+-- behind a space; in two bytes no fault stands at the second.
+abbrev pub told_at : Role → Item → ℕ
+told_at role.Remark item = behind_first item
+told_at role.UnknownComment item = behind_first item
+told_at r item = item.from
 
 -- ---- a fault
 

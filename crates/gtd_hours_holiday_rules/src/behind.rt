@@ -3,7 +3,8 @@
 ghost use Rattle.std.specs.Prelude.{◌≡◌};
 ghost use Rattle.gtd_hours_holiday_rules.specs.Behind.{after, after_close, after_colon, after_leading, after_listed};
 ghost use Rattle.gtd_hours_holiday_rules.specs.Behind.{after_month, after_number, after_open, after_token, after_weekday};
-ghost use Rattle.gtd_hours_holiday_rules.specs.Behind.{after_what, behind_after, front, last_holiday, last_of, last_token};
+ghost use Rattle.gtd_hours_holiday_rules.specs.Behind.{after_what, behind_after, front, is_commented, last_holiday};
+ghost use Rattle.gtd_hours_holiday_rules.specs.Behind.{last_of, last_token};
 
 use crate::items::{Item, What};
 use crate::role::Role;
@@ -46,6 +47,8 @@ pub enum Behind {
     Times,
     /// What no list follows: a modifier, or `24/7`.
     Done,
+    /// A comment that says something of its rule: only another rule follows.
+    Commented,
 }
 
 /// What the last item is, as far as this matters.
@@ -57,6 +60,10 @@ pub enum Last {
     Unfinished,
     /// A public holiday.
     Public,
+    /// A word that says whether a rule is open: a comment directly behind it says why.
+    Modifier,
+    /// The word `week`, or a comment: no comment stands directly behind it.
+    NoComment,
     /// Something else.
     Other,
 }
@@ -77,6 +84,16 @@ pub fn front() -> Position
     Position {
         behind: Behind::Front,
         last: Last::Other,
+    }
+}
+
+/// Whether it is a comment that says something of its rule.
+pub fn is_commented(behind: Behind) -> bool
+    ensures { result ≡ is_commented behind }
+{
+    match behind {
+        Behind::Commented => true,
+        _ => false,
     }
 }
 
@@ -190,8 +207,8 @@ fn after_what(behind: Behind, what: What) -> Behind
     ensures { result ≡ after_what behind what }
 {
     match what {
-        What::Holiday(_) => behind,
         What::Token(kind) => after_token(behind, kind),
+        _ => behind,
     }
 }
 
@@ -200,8 +217,14 @@ fn behind_after(behind: Behind, role: Role, item: Item) -> Behind
 {
     match role {
         Role::Begins(_) => Behind::Front,
+        Role::Fallback => Behind::Front,
         Role::Leading(_) => after_leading(behind, item.from),
         Role::Listed(_) => after_listed(behind),
+        Role::Misfit => behind,
+        Role::Silent => Behind::Done,
+        Role::UnknownWord => Behind::Done,
+        Role::Remark => Behind::Commented,
+        Role::UnknownComment => Behind::Commented,
         _ => after_what(behind, item.what),
     }
 }
@@ -214,6 +237,9 @@ fn last_token(kind: TokenKind) -> Last
         TokenKind::Number { .. } => Last::Unfinished,
         TokenKind::Plus => Last::Unfinished,
         TokenKind::Dash => Last::Unfinished,
+        TokenKind::Open => Last::Modifier,
+        TokenKind::Closed => Last::Modifier,
+        TokenKind::Week => Last::NoComment,
         _ => Last::Other,
     }
 }
@@ -233,6 +259,9 @@ fn last_of(what: What) -> Last
     match what {
         What::Token(kind) => last_token(kind),
         What::Holiday(holiday) => last_holiday(holiday),
+        What::Comment => Last::NoComment,
+        What::Unknown => Last::Modifier,
+        What::Fallback => Last::Other,
     }
 }
 

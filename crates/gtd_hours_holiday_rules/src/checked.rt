@@ -1,8 +1,10 @@
 //! The checked text: plain hours of the same length.
 
 ghost use Rattle.std.specs.Prelude.{◌≡◌, ◌-◌, IfOk, drop, option_map, set};
-ghost use Rattle.gtd_hours_holiday_rules.specs.Checked.{checked_text, first_or_space, form_of, put_over, written_over};
+ghost use Rattle.gtd_hours_holiday_rules.specs.Checked.{byte_before, checked_from, checked_text, comment_form, first_or_space};
+ghost use Rattle.gtd_hours_holiday_rules.specs.Checked.{form_of, put_over, written_over};
 
+use crate::items::{Item, stretch};
 use crate::parts::Part;
 use crate::role::Role;
 use std::alloc::{AllocError, Global};
@@ -47,9 +49,36 @@ fn put_over(bytes: &mut [u8], from: usize, to: usize, form: &[u8])
     }
 }
 
-// What an item is written over by, if it does not stay.
-fn form_of(role: Role) -> Option<&'static [u8]>
-    ensures { option_map (λ form. form.now) result ≡ form_of role }
+// The byte before a place, or a space.
+fn byte_before(text: &[u8], place: usize) -> u8
+    ensures { result ≡ byte_before text.now place }
+{
+    if place > 0 {
+        match text.get(place - 1) {
+            None => b' ',
+            Some(byte) => *byte,
+        }
+    } else {
+        b' '
+    }
+}
+
+// What a comment on a rule is written over by: a word, apart from one before it.
+fn comment_form(text: &[u8], item: Item) -> &'static [u8]
+    ensures { result.now ≡ comment_form text.now item }
+{
+    if stretch(text, item.from, item.to).len() > 2 {
+        b" on".as_slice()
+    } else if byte_before(text, item.from).is_ascii_alphabetic() {
+        b"".as_slice()
+    } else {
+        b"on".as_slice()
+    }
+}
+
+// What an item of which this becomes is written over by, if it does not stay.
+fn form_of(text: &[u8], item: Item, role: Role) -> Option<&'static [u8]>
+    ensures { option_map (λ form. form.now) result ≡ form_of text.now item role }
 {
     match role {
         Role::Leading(_) => Some(b"".as_slice()),
@@ -57,24 +86,29 @@ fn form_of(role: Role) -> Option<&'static [u8]>
         Role::Listed(_) => Some(b"Mo".as_slice()),
         Role::Doubtful => Some(b"PH".as_slice()),
         Role::Misfit => Some(b"]".as_slice()),
+        Role::Fallback => Some(b";".as_slice()),
+        Role::UnknownWord => Some(b"off".as_slice()),
+        Role::Silent => Some(b"".as_slice()),
+        Role::Remark => Some(comment_form(text, item)),
+        Role::UnknownComment => Some(comment_form(text, item)),
         _ => None,
     }
 }
 
-fn write_over(bytes: &mut [u8], part: Part)
-    ensures { bytes.new ≡ written_over bytes.old part.item.from part.item.to (form_of part.role) }
+fn write_over(bytes: &mut [u8], text: &[u8], part: Part)
+    ensures { bytes.new ≡ written_over bytes.old part.item.from part.item.to (form_of text.now part.item part.role) }
 {
-    if let Some(form) = form_of(part.role) {
+    if let Some(form) = form_of(text, part.item, part.role) {
         put_over(bytes, part.item.from, part.item.to, form);
     }
 }
 
-fn write_all(bytes: &mut [u8], parts: &[Part])
-    ensures { bytes.new ≡ checked_text bytes.old parts.now }
+fn write_all(bytes: &mut [u8], text: &[u8], parts: &[Part])
+    ensures { bytes.new ≡ checked_from text.now bytes.old parts.now }
 {
     let mut rest = parts;
     while let Some((part, later)) = rest.split_first() {
-        write_over(bytes, *part);
+        write_over(bytes, text, *part);
         rest = later;
     }
 }
@@ -84,6 +118,6 @@ pub fn checked_text(alloc: Global, text: &[u8], parts: &[Part]) -> Result<Vec<u8
     ensures { IfOk result (λ checked. checked.items ≡ checked_text text.now parts.now) }
 {
     let mut checked = text.to_vec(alloc)?;
-    write_all(checked.as_mut_slice(), parts);
+    write_all(checked.as_mut_slice(), text, parts);
     Ok(checked)
 }

@@ -1,8 +1,8 @@
-//! The items of a text: its tokens, of which some are holidays.
+//! The items of a text: its tokens, of which some are holidays, comments, or of rules that fall back or are unknown.
 
 ghost use Rattle.std.specs.Prelude.{◌≡◌, IfOk};
-ghost use Rattle.gtd_hours_holiday_rules.specs.Items.{is_public, is_school, is_unread, is_word, item_at, items_of, more_at};
-ghost use Rattle.gtd_hours_holiday_rules.specs.Items.{public_with, stretch};
+ghost use Rattle.gtd_hours_holiday_rules.specs.Items.{begins_quoted, is_comment, is_public, is_school, is_unread, is_word};
+ghost use Rattle.gtd_hours_holiday_rules.specs.Items.{item_at, items_of, more_at, public_with, stretch, what_of};
 
 use crate::offsets::{later, offset_front};
 use gtd_hours_days::{Listed, Offset};
@@ -16,6 +16,12 @@ pub enum What {
     Token(TokenKind),
     /// A holiday, with its offset.
     Holiday(Listed),
+    /// A comment.
+    Comment,
+    /// `||`, the sign of a fallback rule.
+    Fallback,
+    /// `unknown`
+    Unknown,
 }
 
 /// An item, and its place in the text.
@@ -68,6 +74,39 @@ fn is_school(text: &[u8], token: Token) -> bool
     is_word(text, token, b"SH")
 }
 
+fn begins_quoted(bytes: &[u8]) -> bool
+    ensures { result ≡ begins_quoted bytes.now }
+{
+    match bytes.first() {
+        None => false,
+        Some(byte) => *byte == b'"',
+    }
+}
+
+/// Whether a token is a comment.
+pub fn is_comment(text: &[u8], token: Token) -> bool
+    ensures { result ≡ is_comment text.now token }
+{
+    is_unread(token.kind) && begins_quoted(stretch(text, token.from, token.to))
+}
+
+// What a token is that is no public holiday.
+fn what_of(text: &[u8], token: Token) -> What
+    ensures { result ≡ what_of text.now token }
+{
+    if is_school(text, token) {
+        What::Holiday(Listed::School)
+    } else if is_comment(text, token) {
+        What::Comment
+    } else if is_word(text, token, b"||") {
+        What::Fallback
+    } else if is_word(text, token, b"unknown") {
+        What::Unknown
+    } else {
+        What::Token(token.kind)
+    }
+}
+
 // A public holiday, with the offset behind it if there is one.
 fn public_with(token: Token, offset: Option<(Offset, usize)>) -> Item
     ensures { result ≡ public_with token offset }
@@ -93,13 +132,8 @@ fn item_at(text: &[u8], token: Token, later: &[Token]) -> Item
     if is_public(text, token) {
         return public_with(token, offset_front(later));
     }
-    let what = if is_school(text, token) {
-        What::Holiday(Listed::School)
-    } else {
-        What::Token(token.kind)
-    };
     Item {
-        what,
+        what: what_of(text, token),
         from: token.from,
         to: token.to,
     }

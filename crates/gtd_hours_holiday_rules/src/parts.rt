@@ -7,7 +7,7 @@ use crate::behind::{Position, after, front};
 use crate::items::Item;
 use crate::role::Role;
 use crate::roles::role_of;
-use crate::told::{Instead, Told, instead_of};
+use crate::told::{Instead, Told, instead_of, told_at};
 use std::alloc::{AllocError, Global};
 
 /// An item, with what becomes of it.
@@ -68,7 +68,7 @@ pub fn told_of(alloc: Global, parts: &[Part]) -> Result<Vec<Told>, AllocError>
     let mut told = Vec::new(alloc);
     let mut rest = parts;
     while let Some((part, later)) = rest.split_first() {
-        push_told(&mut told, part.item.from, part.instead)?;
+        push_told(&mut told, told_at(part.role, part.item), part.instead)?;
         rest = later;
     }
     Ok(told)

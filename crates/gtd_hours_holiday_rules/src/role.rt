@@ -18,8 +18,18 @@ pub enum Role {
     Listed(Listed),
     /// People read what stands here in two ways: the checked text has a fault here.
     Doubtful,
-    /// A sign or a bracket that holidays do not have, or a holiday where none can stand: the checked text has a fault here.
+    /// A sign or a bracket that holidays do not have, or what cannot stand where it does: the checked text has a fault here.
     Misfit,
     /// A rule begins behind it. It is in the checked text alone.
     Begins(Link),
+    /// A fallback rule begins behind it: a semicolon stands for it in the checked text.
+    Fallback,
+    /// The word `unknown`, which makes its rule unknown: the word `off` stands for it in the checked text.
+    UnknownWord,
+    /// A comment that says why a rule is open, closed or unknown: it is in neither text.
+    Silent,
+    /// A comment on a rule that is open: the word `on` stands for it in the checked text.
+    Remark,
+    /// A comment that makes its rule unknown: the word `on` stands for it in the checked text.
+    UnknownComment,
 }

@@ -1,10 +1,11 @@
 //! What becomes of an item, by what stands behind and before it.
 
 ghost use Rattle.std.specs.Prelude.{◌≡◌};
-ghost use Rattle.gtd_hours_holiday_rules.specs.Roles.{comma_role, days_comma, first_role, holiday_role, joined_role, kept_if};
-ghost use Rattle.gtd_hours_holiday_rules.specs.Roles.{role_of, sign_role, token_role, weekday_role};
+ghost use Rattle.gtd_hours_holiday_rules.specs.Roles.{comma_role, comment_role, days_comma, first_role, holiday_role};
+ghost use Rattle.gtd_hours_holiday_rules.specs.Roles.{joined_role, kept_if, remark_role, role_in, role_of, separates, sign_role};
+ghost use Rattle.gtd_hours_holiday_rules.specs.Roles.{token_role, weekday_role};
 
-use crate::behind::{Behind, Last, Position};
+use crate::behind::{Behind, Last, Position, is_commented};
 use crate::coming::{
     begins_holiday, begins_month_days, begins_number, begins_time, begins_weekday, begins_year,
     leads,
@@ -140,12 +141,59 @@ fn token_role(behind: Behind, last: Last, kind: TokenKind, later: &[Item]) -> Ro
     }
 }
 
+// A comment that says something of its rule: one with times, or of all days and times, is open, and others are unknown.
+fn remark_role(behind: Behind) -> Role
+    ensures { result ≡ remark_role behind }
+{
+    match behind {
+        Behind::Times => Role::Remark,
+        Behind::Done => Role::Remark,
+        _ => Role::UnknownComment,
+    }
+}
+
+fn comment_role(behind: Behind, last: Last) -> Role
+    ensures { result ≡ comment_role behind last }
+{
+    match last {
+        Last::Modifier => Role::Silent,
+        Last::NoComment => Role::Misfit,
+        _ => remark_role(behind),
+    }
+}
+
+// What becomes of an item that has no such comment before it.
+fn role_in(position: Position, what: What, later: &[Item]) -> Role
+    ensures { result ≡ role_in position what later.now }
+{
+    match what {
+        What::Holiday(holiday) => holiday_role(position.behind, position.last, holiday, later),
+        What::Token(kind) => token_role(position.behind, position.last, kind, later),
+        What::Comment => comment_role(position.behind, position.last),
+        What::Fallback => Role::Fallback,
+        What::Unknown => Role::UnknownWord,
+    }
+}
+
+// Whether another rule can begin behind it.
+fn separates(what: What) -> bool
+    ensures { result ≡ separates what }
+{
+    match what {
+        What::Token(TokenKind::Comma) => true,
+        What::Token(TokenKind::Semicolon) => true,
+        What::Fallback => true,
+        _ => false,
+    }
+}
+
 /// What becomes of an item at a position, where these come behind it.
 pub fn role_of(position: Position, item: Item, later: &[Item]) -> Role
     ensures { result ≡ role_of position item later.now }
 {
-    match item.what {
-        What::Holiday(holiday) => holiday_role(position.behind, position.last, holiday, later),
-        What::Token(kind) => token_role(position.behind, position.last, kind, later),
+    if is_commented(position.behind) && !separates(item.what) {
+        Role::Misfit
+    } else {
+        role_in(position, item.what, later)
     }
 }

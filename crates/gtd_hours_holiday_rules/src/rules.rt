@@ -1,8 +1,8 @@
-//! The rules of a text, each with its own text without holidays, and its holidays.
+//! The rules of a text, each with its own text of plain hours, its holidays, and what else is said of it.
 
 ghost use Rattle.std.specs.Prelude.{◌≡◌, ◌++◌, ◌∷◌, [], List, IfOk, OnOk, map};
-ghost use Rattle.gtd_hours_holiday_rules.specs.Rules.{all_rules, begun, ended, link_of, rules_of, said_by, with_holiday};
-ghost use Rattle.gtd_hours_holiday_rules.specs.Rules.{with_item, with_text};
+ghost use Rattle.gtd_hours_holiday_rules.specs.Rules.{all_rules, beginning_of, begun, ended, joined, rules_of, said_by};
+ghost use Rattle.gtd_hours_holiday_rules.specs.Rules.{with_holiday, with_item, with_text};
 ghost use Rattle.gtd_hours_holiday_rules.specs.declared.parts.Part.{Part};
 
 use crate::items::{Item, stretch};
@@ -13,11 +13,23 @@ use gtd_hours_days::Listed;
 use std::alloc::{AllocError, Global};
 use std::mem::replace;
 
-/// A rule of a text with holidays.
-#[derive(Drop)]
-pub struct HolidayRule {
+/// How a rule begins.
+#[derive(Clone, Copy)]
+pub struct Beginning {
     /// How it stands to the rules before it.
     pub link: Link,
+    /// The place of the `||` behind which it begins, if one stands there.
+    pub fallback: Option<usize>,
+}
+
+/// A rule of a text.
+#[derive(Drop)]
+pub struct HolidayRule {
+    /// How it stands to the rules before it; a fallback rule adds to them.
+    pub link: Link,
+    /// The number of bytes before the `||` behind which it begins, if it is a fallback rule: one that speaks where nothing is
+    /// said.
+    pub fallback: Option<usize>,
     /// Its text without holidays: plain hours of one rule.
     pub text: Vec<u8>,
     /// Whether its holidays lead: then a day must be one of them as well as what the text says. Else it must be one of them or
@@ -27,6 +39,10 @@ pub struct HolidayRule {
     pub holidays: Vec<Listed>,
     /// Where each of them begins in the whole text.
     pub places: Vec<usize>,
+    /// The number of bytes before the word or the comment that makes it unknown, if it is.
+    pub unknown: Option<usize>,
+    /// The number of bytes before a comment without a word that says that the rule is open, if it has one.
+    pub remark: Option<usize>,
 }
 
 /// The rules that have ended, and the last one so far.
@@ -38,15 +54,28 @@ pub struct Cut {
     pub last: HolidayRule,
 }
 
-fn begun(alloc: Global, link: Link) -> HolidayRule
-    ensures { said_by result ≡ begun link }
+// Without `||`.
+fn joined(link: Link) -> Beginning
+    ensures { result ≡ joined link }
+{
+    Beginning {
+        link,
+        fallback: None,
+    }
+}
+
+fn begun(alloc: Global, beginning: Beginning) -> HolidayRule
+    ensures { said_by result ≡ begun beginning }
 {
     HolidayRule {
-        link,
+        link: beginning.link,
+        fallback: beginning.fallback,
         text: Vec::new(alloc),
         is_led: false,
         holidays: Vec::new(alloc),
         places: Vec::new(alloc),
+        unknown: None,
+        remark: None,
     }
 }
 
@@ -77,6 +106,18 @@ fn push_item(rule: &mut HolidayRule, text: &[u8], role: Role, item: Item) -> Res
             push_holiday(rule, holiday, item.from)
         }
         Role::Listed(holiday) => push_holiday(rule, holiday, item.from),
+        Role::UnknownWord => {
+            rule.unknown = Some(item.from);
+            Ok(())
+        }
+        Role::UnknownComment => {
+            rule.unknown = Some(item.from);
+            Ok(())
+        }
+        Role::Remark => {
+            rule.remark = Some(item.from);
+            Ok(())
+        }
         _ => Ok(()),
     }
 }
@@ -91,24 +132,28 @@ fn end(rule: &mut HolidayRule) -> Result<(), AllocError>
     Ok(())
 }
 
-// How the rule that begins with an item stands to those before it, if one begins.
-fn link_of(role: Role) -> Option<Link>
-    ensures { result ≡ link_of role }
+// How a rule begins behind an item of which this becomes, if one begins there.
+fn beginning_of(role: Role, item: Item) -> Option<Beginning>
+    ensures { result ≡ beginning_of role item }
 {
     match role {
-        Role::Begins(link) => Some(link),
+        Role::Begins(link) => Some(joined(link)),
+        Role::Fallback => Some(Beginning {
+            link: Link::Also,
+            fallback: Some(item.from),
+        }),
         _ => None,
     }
 }
 
 // The last rule ends, and another begins.
-fn begin(cut: &mut Cut, alloc: Global, link: Link) -> Result<(), AllocError>
+fn begin(cut: &mut Cut, alloc: Global, beginning: Beginning) -> Result<(), AllocError>
     ensures ended { OnOk result (map said_by cut.new.ended.items
         ≡ map said_by cut.old.ended.items ++ ended (said_by cut.old.last) ∷ []) }
-    ensures last { OnOk result (said_by cut.new.last ≡ begun link) }
+    ensures last { OnOk result (said_by cut.new.last ≡ begun beginning) }
 {
     end(&mut cut.last)?;
-    let ended = replace(&mut cut.last, begun(alloc, link));
+    let ended = replace(&mut cut.last, begun(alloc, beginning));
     cut.ended.push(ended)?;
     Ok(())
 }
@@ -116,8 +161,8 @@ fn begin(cut: &mut Cut, alloc: Global, link: Link) -> Result<(), AllocError>
 fn put_part(cut: &mut Cut, alloc: Global, text: &[u8], part: Part) -> Result<(), AllocError>
     ensures { OnOk result ((parts : List Part) → all_rules text.now cut.new parts ≡ all_rules text.now cut.old (part ∷ parts)) }
 {
-    match link_of(part.role) {
-        Some(link) => begin(cut, alloc, link),
+    match beginning_of(part.role, part.item) {
+        Some(beginning) => begin(cut, alloc, beginning),
         None => push_item(&mut cut.last, text, part.role, part.item),
     }
 }
@@ -128,13 +173,13 @@ pub fn rules_of(alloc: Global, text: &[u8], parts: &[Part]) -> Result<Vec<Holida
 {
     let mut cut = Cut {
         ended: Vec::new(alloc),
-        last: begun(alloc, Link::Instead),
+        last: begun(alloc, joined(Link::Instead)),
     };
     let mut rest = parts;
     while let Some((part, later)) = rest.split_first() {
         put_part(&mut cut, alloc, text, *part)?;
         rest = later;
     }
-    begin(&mut cut, alloc, Link::Instead)?;
+    begin(&mut cut, alloc, joined(Link::Instead))?;
     Ok(cut.ended)
 }

@@ -6,7 +6,7 @@ use std::alloc::AllocError;
 /// Why a text has no rules.
 #[derive(Clone, Copy, Debug, PartialEq, Eq)]
 pub enum NoHolidayText {
-    /// No token begins at a byte that is no space.
+    /// No token begins at a byte that is no space, or a comment begins there that does not end or has a control byte.
     BadToken {
         /// The number of bytes before it.
         place: usize,

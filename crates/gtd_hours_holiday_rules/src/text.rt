@@ -1,4 +1,4 @@
-//! A text with holidays as plain hours and holidays.
+//! A text with holidays, comments, unknown and fallback rules as plain hours and what is said beside them.
 
 ghost use Rattle.std.specs.Prelude.{◌≡◌, IfErr, IfOk, length};
 ghost use Rattle.gtd_hours_holiday_rules.specs.Items.{items_of};
@@ -15,7 +15,7 @@ use crate::told::Told;
 use gtd_hours_tokens::Token;
 use std::alloc::{AllocError, Global};
 
-/// A text with holidays as plain hours and holidays.
+/// A text as plain hours and what is said beside them.
 #[derive(Drop)]
 pub struct HolidayText {
     /// Plain hours of the length of the text, with a fault exactly where the text has one.
@@ -49,8 +49,8 @@ fn with_tokens(alloc: Global, text: &[u8], tokens: &[Token]) -> Result<HolidayTe
     with_parts(alloc, text, parts.as_slice())
 }
 
-/// A text with holidays as plain hours and holidays. Errors: the first byte with which no token begins; or that there is no
-/// memory.
+/// A text as plain hours and what is said beside them. Errors: the first byte with which no token begins, or the first comment
+/// that does not end or has a control byte, whichever stands first; or that there is no memory.
 pub fn holiday_text(alloc: Global, text: &[u8]) -> Result<HolidayText, NoHolidayText>
     ensures text { IfOk result (IsHolidayText text.now) }
     ensures length { IfOk result (λ read. length read.checked.items ≡ length text.now) }

@@ -2,10 +2,11 @@
 
 ghost use Rattle.std.specs.Prelude.{◌≡◌};
 ghost use Rattle.gtd_hours_holiday_rules.specs.Coming.{begins};
-ghost use Rattle.gtd_hours_holiday_rules.specs.Told.{begins_days, fault_by, first_place, instead_of, is_day, is_public};
-ghost use Rattle.gtd_hours_holiday_rules.specs.Told.{is_sign, led_instead, misfit_fault, sign_fault, told_fault};
+ghost use Rattle.gtd_hours_holiday_rules.specs.Told.{begins_days, behind_first, commented_fault, fault_by, first_place};
+ghost use Rattle.gtd_hours_holiday_rules.specs.Told.{instead_of, is_day, is_foreign, is_public, is_sign, led_instead};
+ghost use Rattle.gtd_hours_holiday_rules.specs.Told.{misfit_fault, sign_fault, told_at, told_fault};
 
-use crate::behind::{Behind, Last, Position};
+use crate::behind::{Behind, Last, Position, is_commented};
 use crate::coming::{begins_weekday, is_number, is_weekday};
 use crate::items::{Item, What};
 use crate::role::Role;
@@ -128,12 +129,42 @@ fn sign_fault(last: Last, place: usize, later: &[Item]) -> HoursFault
     }
 }
 
-// What is wrong at an item that cannot stand where it does.
-fn misfit_fault(last: Last, item: Item, later: &[Item]) -> HoursFault
-    ensures { result ≡ misfit_fault last item later.now }
+// A word or a sign that is not read there.
+fn is_foreign(what: What) -> bool
+    ensures { result ≡ is_foreign what }
 {
-    if is_sign(item.what) {
-        sign_fault(last, item.from, later)
+    match what {
+        What::Token(TokenKind::Unsupported) => true,
+        What::Token(TokenKind::Plus) => true,
+        _ => false,
+    }
+}
+
+// What is wrong at an item behind a comment on its rule.
+fn commented_fault(item: Item) -> HoursFault
+    ensures { result ≡ commented_fault item }
+{
+    if is_foreign(item.what) {
+        HoursFault {
+            kind: FaultKind::Unsupported,
+            place: item.from,
+        }
+    } else {
+        HoursFault {
+            kind: FaultKind::Unexpected,
+            place: item.from,
+        }
+    }
+}
+
+// What is wrong at an item that cannot stand where it does.
+fn misfit_fault(position: Position, item: Item, later: &[Item]) -> HoursFault
+    ensures { result ≡ misfit_fault position item later.now }
+{
+    if is_commented(position.behind) {
+        commented_fault(item)
+    } else if is_sign(item.what) {
+        sign_fault(position.last, item.from, later)
     } else {
         HoursFault {
             kind: FaultKind::Unexpected,
@@ -164,8 +195,31 @@ pub fn instead_of(position: Position, role: Role, item: Item, later: &[Item]) ->
 {
     match role {
         Role::Doubtful => Some(Instead::Ambiguous { place: item.from }),
-        Role::Misfit => Some(Instead::Fault(misfit_fault(position.last, item, later))),
+        Role::Misfit => Some(Instead::Fault(misfit_fault(position, item, later))),
+        Role::Remark => Some(Instead::Place(item.from)),
+        Role::UnknownComment => Some(Instead::Place(item.from)),
         _ => led_instead(position.behind, item.what),
+    }
+}
+
+fn behind_first(item: Item) -> usize
+    ensures { result ≡ behind_first item }
+{
+    if item.from < item.to {
+        item.from + 1
+    } else {
+        item.from
+    }
+}
+
+/// Where a fault at an item of which this becomes stands in the checked text: the word for a comment stands behind a space.
+pub fn told_at(role: Role, item: Item) -> usize
+    ensures { result ≡ told_at role item }
+{
+    match role {
+        Role::Remark => behind_first(item),
+        Role::UnknownComment => behind_first(item),
+        _ => item.from,
     }
 }
 

@@ -1,7 +1,10 @@
 -- What rows say of days, and which of them are covered.
-use Rattle.std.proofs.Common.{◌≡◌, ap, refl, subst, arith, ◌<◌, ◌⊎◌, inl, inr, ◌+◌, ◌↔◌, ℕ, zero, suc, Bool, true, false}
-use Rattle.std.proofs.Common.{List, [], ◌∷◌, ◌++◌, length, get_or, ℤ, ◌≤ℤ◌}
-use Rattle.std.specs.Prelude.{IsTrue, MatchOption, Option, Some, None}
+use Rattle.std.proofs.Common.{◌≡◌, ◌∙◌, ap, refl, sym, subst, arith, ◌<◌, ◌⊎◌, inl, inr, ◌+◌, ◌↔◌, ℕ, zero, suc}
+use Rattle.std.proofs.Common.{Bool, true, false, List, [], ◌∷◌, ◌++◌, length, get_or, ℤ, ◌≤ℤ◌}
+use Rattle.std.proofs.lemmas.Int.{by_lt_z}
+use Rattle.std.specs.Prelude.{IsTrue}
+use Rattle.gtd_calendar.specs.facts.Signed.{signed_arith}
+use Rattle.gtd_hours_holidays.specs.Covering.{IsAfterRow, IsCoveredUntil}
 use Rattle.gtd_hours_holidays.specs.Days.{AreAll, IsFirstWithout, IsIn}
 use Rattle.gtd_hours_holidays.specs.Reading.{IsAdded}
 use Rattle.gtd_hours_holidays.specs.Table.{AreOutside, IsCovered, IsInside, IsOfRow, IsOfRows}
@@ -117,19 +120,6 @@ inside_if all row kind covered b are same holidays is = (there, back)
 pub covering_inside : (all : List HolidayRow) (row : HolidayRow) → row.covers ≡ true → IsInside all row
 covering_inside all row covers says = cc
 
--- the first day that is not in the set is the first that is not covered
-pub first_of : (days : Days) (rows : List HolidayRow) (kind : HolidayKind) (from to : ℤ) (r : Option ℤ)
-    → ((n : ℤ) → IsIn days n ↔ IsCovered rows kind n)
-    → MatchOption r (AreAll (IsIn days) from to) (IsFirstWithout (IsIn days) from to)
-    → MatchOption r (AreAll (IsCovered rows kind) from to) (IsFirstWithout (IsCovered rows kind) from to)
-first_of days rows kind from to None are all = λ n low high. (are n).0 (all n low high)
-first_of days rows kind from to (Some day) are first = record {
-  after = first.after;
-  before = first.before;
-  fails = λ h. first.fails ((are day).1 h);
-  earlier = λ n low high. (are n).0 (first.earlier n low high);
-}
-
 -- ---- the list of rows that are not
 
 module _ (all : List HolidayRow) where
@@ -164,3 +154,58 @@ module _ (all : List HolidayRow) where
       → AreOutside all 1 (rows ++ row ∷ []) new
   added_outside rows row old new number e are (inl p) = rw (p.1) (inside_more 1 rows row old are p.0)
   added_outside rows row old new number e are (inr p) = rw (p.1) (outside_more 1 rows row old number e are p.0)
+
+-- ---- how far rows cover
+
+module _ (kind : HolidayKind) (all : List HolidayRow) (day until : ℤ) (at : ℕ) (row : HolidayRow) (lt : at < length all)
+    (e : row ≡ get_or all at row) (so_far : IsCoveredUntil all kind day until) (next : ℤ) where
+  -- a row that has the day reached covers up to its last one
+  pub covered_more : IsAfterRow kind row until next → IsCoveredUntil all kind day next
+  covered_more (inl x) =
+      let of = x.0 in
+      let is = x.1 in
+      let p = so_far.order in
+      let low = of.2 in
+      let high = of.3 in
+      let end = row.last_in.1 in
+      record {
+        order = omega (arith, signed_arith, is, p, high);
+        near = omega (arith, signed_arith, is, end);
+        each = λ n above below. by_lt_z n until (λ less. so_far.each n above less)
+            (λ ge. has_row kind true n all at row lt e
+            (of.0, of.1, omega (arith, signed_arith, low, ge), omega (arith, signed_arith, is, below)));
+      }
+  covered_more (inr x) = rw (x.1) so_far
+
+  -- and where it is still the first day, no row so far has that
+  pub still_none : (before : List HolidayRow) → (until ≡ day → IsOfRows kind true day before → ⊥)
+      → IsAfterRow kind row until next → next ≡ day → IsOfRows kind true day (before ++ row ∷ []) → ⊥
+  still_none before none (inl x) same h =
+      let is = x.1 in
+      let high = x.0.3 in
+      let p = so_far.order in
+      omega (arith, signed_arith, is, high, p, same)
+  still_none before none (inr x) same h =
+      let e : until ≡ day = sym (x.1) ∙ same in
+      none_more kind true day before row (none e) (rw e at x.0) h
+
+-- the day reached is the first that is not covered
+pub first_is : (kind : HolidayKind) (rows : List HolidayRow) (from to day : ℤ) → IsCoveredUntil rows kind from day → day ≤ℤ to
+    → (IsCovered rows kind day → ⊥) → IsFirstWithout (IsCovered rows kind) from to day
+first_is kind rows from to day so_far before not = record {
+  after = so_far.order;
+  before = before;
+  fails = not;
+  earlier = so_far.each;
+}
+
+pub covered_on : (kind : HolidayKind) (rows : List HolidayRow) (from day until : ℤ) → IsCoveredUntil rows kind from day
+    → IsCoveredUntil rows kind day until → IsCoveredUntil rows kind from until
+covered_on kind rows from day until so_far more =
+    let p = so_far.order in
+    let q = more.order in
+    record {
+      order = omega (arith, signed_arith, p, q);
+      near = more.near;
+      each = λ n low high. by_lt_z n day (λ lt. so_far.each n low lt) (λ ge. more.each n ge high);
+    }

@@ -2,9 +2,9 @@
 use Rattle.std.proofs.Common.{◌≡◌, ◌∙◌, sym, refl, subst, arith, ◌<◌, ◌≤◌, ◌⊎◌, inl, inr, ◌↔◌, ℕ, Bool, true, false}
 use Rattle.std.proofs.Common.{List, length, get_or, ◌+◌, ℤ, pos, ◌+ℤ◌, ◌-ℤ◌, ◌≤ℤ◌, ◌<ℤ◌, unsigned_abs}
 use Rattle.std.proofs.lemmas.Bool.{cases_lt, cases_order}
+use Rattle.std.proofs.lemmas.Int.{by_lt_z}
 use Rattle.std.proofs.lemmas.List.{get_or-set_same, get_or-set_other}
 use Rattle.std.proofs.Math.ListN.{set}
-use Rattle.gtd_core.specs.Limits.{first_calendar_day}
 use Rattle.gtd_calendar.specs.Calendar.{IsCalendarDay}
 use Rattle.gtd_calendar.specs.facts.Signed.{signed_arith, one_part}
 use Rattle.gtd_hours_holidays.specs.Days.{AreAll, AreNone, IsFirst, IsFirstWithout, IsIn}
@@ -82,36 +82,46 @@ same_place : (a : ℤ) (i k : ℕ) → a +ℤ pos i ≡ a +ℤ pos k → i ≡ k
 same_place a i k h = omega (arith, signed_arith, h)
 
 -- the mark of a day says whether it is in the set
-pub at_place : (days : Days) (p : ℕ) (n : ℤ) → IsCalendarDay n → n ≡ first_calendar_day +ℤ pos p
+pub at_place : (days : Days) (p : ℕ) (n : ℤ) → IsCalendarDay n → n ≡ days.first +ℤ pos p
     → (get_or days.marks.items p false ≡ true) ↔ IsIn days n
 at_place days p n day e = (
   (λ h. (day, p, e, h)),
-  (λ h. let same : h.1 ≡ p = same_place first_calendar_day h.1 p (sym h.2 ∙ e) in
+  (λ h. let same : h.1 ≡ p = same_place days.first h.1 p (sym h.2 ∙ e) in
       subst (λ (k : ℕ). get_or days.marks.items k false ≡ true) same h.3),
 )
 
+-- a day before the first one is not in the set
+pub not_before : (days : Days) (n : ℤ) → n <ℤ days.first → IsIn days n → ⊥
+not_before days n lt h = apart days.first n h.1 h.2 lt
+  where
+    apart : (a n : ℤ) (k : ℕ) → n ≡ a +ℤ pos k → n <ℤ a → ⊥
+    apart a n k e lt = omega (arith, signed_arith, e, lt)
+
+-- the day is marked, where marks count from a first day
+abbrev pub IsMarkedDay : ℤ → List Bool → ℤ → Type 0
+IsMarkedDay base marks n = IsCalendarDay n × (k : ℕ) × (n ≡ base +ℤ pos k) × (get_or marks k false ≡ true)
+
 -- the days from one to another are added
-module _ (old new : Days) (grown : List Bool) (p q : ℕ) (first last : ℤ) (first_in : IsCalendarDay first)
-    (last_in : IsCalendarDay last)
-    (same : (k : ℕ) → get_or grown k false ≡ get_or old.marks.items k false)
-    (are : AreMarked grown new.marks.items p (q + 1))
-    (from : first ≡ first_calendar_day +ℤ pos p) (to : last ≡ first_calendar_day +ℤ pos q) where
-  there : (n : ℤ) (day : IsCalendarDay n) (k : ℕ) → n ≡ first_calendar_day +ℤ pos k
-      → (get_or grown k false ≡ true) ⊎ ((p ≤ k) × (k < q + 1)) → IsIn old n ⊎ ((first ≤ℤ n) × (n ≤ℤ last))
+module _ (base : ℤ) (old grown new : List Bool) (p q : ℕ) (first last : ℤ) (first_in : IsCalendarDay first)
+    (last_in : IsCalendarDay last) (begun : base ≤ℤ first)
+    (same : (k : ℕ) → get_or grown k false ≡ get_or old k false)
+    (are : AreMarked grown new p (q + 1)) (from : first ≡ base +ℤ pos p) (to : last ≡ base +ℤ pos q) where
+  there : (n : ℤ) (day : IsCalendarDay n) (k : ℕ) → n ≡ base +ℤ pos k
+      → (get_or grown k false ≡ true) ⊎ ((p ≤ k) × (k < q + 1)) → IsMarkedDay base old n ⊎ ((first ≤ℤ n) × (n ≤ℤ last))
   there n day k e (inl h) = inl (day, k, e, sym (same k) ∙ h)
   there n day k e (inr h) =
       let a = h.0 in
       let b = h.1 in
       inr (omega (arith, signed_arith, from, e, a), omega (arith, signed_arith, to, e, b))
 
-  back : (n : ℤ) → IsIn old n ⊎ ((first ≤ℤ n) × (n ≤ℤ last)) → IsIn new n
+  back : (n : ℤ) → IsMarkedDay base old n ⊎ ((first ≤ℤ n) × (n ≤ℤ last)) → IsMarkedDay base new n
   back n (inl h) = (h.0, h.1, h.2, (are h.1).1 (inl (same h.1 ∙ h.3)))
   back n (inr h) =
       let a = h.0 in
       let b = h.1 in
       let low = first_in.0 in
       let high = last_in.1 in
-      let k = after first_calendar_day n (omega (arith, signed_arith, low, a)) in
+      let k = after base n (omega (arith, signed_arith, begun, a)) in
       let e = k.1 in (
         (omega (arith, signed_arith, low, a), omega (arith, signed_arith, high, b)),
         k.0,
@@ -119,14 +129,8 @@ module _ (old new : Days) (grown : List Bool) (p q : ℕ) (first last : ℤ) (fi
         (are k.0).1 (inr (omega (arith, signed_arith, from, e, a), omega (arith, signed_arith, to, e, b))),
       )
 
-  pub days_added : (n : ℤ) → IsIn new n ↔ (IsIn old n ⊎ ((first ≤ℤ n) × (n ≤ℤ last)))
+  pub days_added : (n : ℤ) → IsMarkedDay base new n ↔ (IsMarkedDay base old n ⊎ ((first ≤ℤ n) × (n ≤ℤ last)))
   days_added n = ((λ h. there n h.0 h.1 h.2 ((are h.1).0 h.3)), back n)
-
--- only marks that say no are added
-pub days_kept : (old new : Days) → ((k : ℕ) → get_or new.marks.items k false ≡ get_or old.marks.items k false)
-    → (n : ℤ) → IsIn new n ↔ IsIn old n
-days_kept old new same n =
-    ((λ h. (h.0, h.1, h.2, sym (same h.1) ∙ h.3)), (λ h. (h.0, h.1, h.2, same h.1 ∙ h.3)))
 
 -- ---- the first day in a set, or not in it
 
@@ -137,15 +141,39 @@ one_of_both : (b : Bool) → (b ≡ false → ⊥) → b ≡ true
 one_of_both true h = refl
 one_of_both false h = absurd (h refl)
 
+-- the days before the first one are not looked at
+module _ (days : Days) (from begin to : ℤ)
+    (low : (from ≤ℤ begin) × (days.first ≤ℤ begin) × ((begin ≡ from) ⊎ (begin ≡ days.first))) where
+  pub begin_in : IsCalendarDay from → IsCalendarDay begin
+  begin_in from_in = elim (low.2) [ inl e ↦ rw e from_in | inr e ↦ rw e days.first_in ]
+
+  none_earlier : (n : ℤ) → from ≤ℤ n → n <ℤ begin → IsIn days n → ⊥
+  none_earlier n above lt h = elim (low.2) [
+    | inl e ↦ omega (arith, signed_arith, e, above, lt)
+    | inr e ↦ not_before days n (omega (arith, signed_arith, e, lt)) h
+  ]
+
+  pub none_after : AreNone (IsIn days) begin to → AreNone (IsIn days) from to
+  none_after none n above below h =
+      by_lt_z n begin (λ lt. none_earlier n above lt h) (λ ge. none n ge below h)
+
+  pub first_after : (day : ℤ) → IsFirst (IsIn days) begin to day → IsFirst (IsIn days) from to day
+  first_after day f = let p = low.0 in let q = f.after in record {
+    after = omega (arith, signed_arith, p, q);
+    before = f.before;
+    holds = f.holds;
+    earlier = λ n above lt h. by_lt_z n begin (λ less. none_earlier n above less h) (λ ge. f.earlier n ge lt h);
+  }
+
 module _ (days : Days) (p q : ℕ) (from to : ℤ) (from_in : IsCalendarDay from) (to_in : IsCalendarDay to)
-    (begins : from ≡ first_calendar_day +ℤ pos p) (ends : to ≡ first_calendar_day +ℤ pos q) where
+    (begins : from ≡ days.first +ℤ pos p) (ends : to ≡ days.first +ℤ pos q) where
   -- the place of a day between them
   placed : (n : ℤ) → from ≤ℤ n → n ≤ℤ to
-      → (k : ℕ) × IsCalendarDay n × (n ≡ first_calendar_day +ℤ pos k) × (p ≤ k) × (k < q + 1)
+      → (k : ℕ) × IsCalendarDay n × (n ≡ days.first +ℤ pos k) × (p ≤ k) × (k < q + 1)
   placed n low high =
       let first = from_in.0 in
       let last = to_in.1 in
-      let k = after first_calendar_day n (omega (arith, signed_arith, first, low)) in
+      let k = after days.first n (omega (arith, signed_arith, begins, low)) in
       let e = k.1 in (
         k.0,
         (omega (arith, signed_arith, first, low), omega (arith, signed_arith, last, high)),
@@ -163,10 +191,10 @@ module _ (days : Days) (p q : ℕ) (from to : ℤ) (from_in : IsCalendarDay from
       let k = placed n low high in
       (at_place days k.0 n k.1 k.2).0 (one_of_both (get_or days.marks.items k.0 false) (all k.0 k.3 k.4))
 
-  module _ (at : ℕ) (day : ℤ) (is : day ≡ first_calendar_day +ℤ pos at) (day_in : IsCalendarDay day) where
+  module _ (at : ℕ) (day : ℤ) (is : day ≡ days.first +ℤ pos at) (day_in : IsCalendarDay day) where
     -- a day before that one
     earlier : (n : ℤ) → from ≤ℤ n → n <ℤ day → at < q + 1
-        → (k : ℕ) × IsCalendarDay n × (n ≡ first_calendar_day +ℤ pos k) × (p ≤ k) × (k < at)
+        → (k : ℕ) × IsCalendarDay n × (n ≡ days.first +ℤ pos k) × (p ≤ k) × (k < at)
     earlier n low high before =
         let k = placed n low (omega (arith, signed_arith, is, ends, before, high)) in
         let e = k.2 in

@@ -1,3 +1,4 @@
+pub mod Covering
 pub mod Dates
 pub mod Days
 pub mod Easter

@@ -1,15 +1,18 @@
 //! A table of holidays, and what it says of days.
 
 ghost use Rattle.std.specs.Prelude.{◌≡◌, ◌↔◌, ◌⊎◌, ◌≤◌, ℤ, List, length, true, IfOk, IsTrue, MatchOption, OnOk};
+ghost use Rattle.gtd_core.specs.Limits.{first_calendar_day};
 ghost use Rattle.gtd_calendar.specs.Calendar.{IsCalendarDay};
+ghost use Rattle.gtd_hours_holidays.specs.Covering.{IsAfterRow, IsCoveredUntil};
 ghost use Rattle.gtd_hours_holidays.specs.Days.{AreAll, IsFirstWithout, IsIn};
 ghost use Rattle.gtd_hours_holidays.specs.Table.{AreOutside, IsCovered, IsHoliday, IsInside, IsOfRow, IsOfRows};
 ghost use Rattle.gtd_hours_holidays.specs.declared.row.HolidayRow.{HolidayRow};
 ghost use Rattle.gtd_hours_holidays.specs.Reading.{IsAdded, IsRead};
 
-use crate::days::Days;
+use crate::days::{Days, FIRST_DAY};
 use crate::fault::HolidaysFault;
 use crate::row::{HolidayKind, HolidayRow};
+use crate::runs::day_after;
 use crate::table::read_rows;
 use std::alloc::{AllocError, Global};
 
@@ -77,7 +80,9 @@ fn add_row(
     kind: HolidayKind,
     covers: bool,
 ) -> Result<(), AllocError>
-    ensures { OnOk result ((n : ℤ) → IsIn days.new n ↔ (IsIn days.old n ⊎ IsOfRow kind covers n row.now)) }
+    requires { days.old.first ≡ first_calendar_day }
+    ensures begins { days.new.first ≡ days.old.first }
+    ensures added { OnOk result ((n : ℤ) → IsIn days.new n ↔ (IsIn days.old n ⊎ IsOfRow kind covers n row.now)) }
 {
     if says(row, kind, covers) {
         days.add(row.first, row.last)?;
@@ -94,7 +99,7 @@ fn days_of(
 ) -> Result<Days, AllocError>
     ensures { IfOk result (λ days. (n : ℤ) → IsIn days n ↔ IsOfRows kind covers n rows.now) }
 {
-    let mut days = Days::new(alloc);
+    let mut days = Days::new(alloc, FIRST_DAY);
     for row in rows {
         add_row(&mut days, row, kind, covers)?;
     }
@@ -181,6 +186,30 @@ pub fn read_holidays(alloc: Global, bytes: &[u8]) -> Result<Holidays, Unread>
     Ok(Holidays { rows: found.rows })
 }
 
+// The day after the last one of a row, if it covers the day reached; otherwise that day.
+fn after_row(row: &HolidayRow, kind: HolidayKind, until: i64) -> i64
+    ensures { IsAfterRow kind row.now until result }
+{
+    if !has(row, kind, true, until) {
+        return until;
+    }
+    day_after(row.last)
+}
+
+// A day up to which rows of a kind cover all days from one on, the day itself only if they do not cover it. Rows in the order of
+// their days are gone through once.
+fn covered_until(rows: &[HolidayRow], kind: HolidayKind, day: i64) -> i64
+    requires { IsCalendarDay day }
+    ensures until { IsCoveredUntil rows.now kind day result }
+    ensures stays { result ≡ day → IsCovered rows.now kind day → ⊥ }
+{
+    let mut until = day;
+    for row in rows {
+        until = after_row(row, kind, until);
+    }
+    until
+}
+
 impl Holidays {
     /// Whether a day is a holiday of this kind. Takes no memory.
     pub fn is_holiday(&self, kind: HolidayKind, day: i64) -> bool
@@ -202,21 +231,22 @@ impl Holidays {
     }
 
     /// The first day from one to another, both included, on which the table does not say all holidays of this kind, or `None` if
-    /// there is none. Both must be of the years 1800 to 2799. `AllocError` is answered only if memory was refused.
-    pub fn first_uncovered(
-        &self,
-        alloc: Global,
-        kind: HolidayKind,
-        from: i64,
-        to: i64,
-    ) -> Result<Option<i64>, AllocError>
+    /// there is none. Both must be of the years 1800 to 2799. Takes no memory.
+    pub fn first_uncovered(&self, kind: HolidayKind, from: i64, to: i64) -> Option<i64>
         requires from_in { IsCalendarDay from }
         requires to_in { IsCalendarDay to }
-        ensures first { IfOk result (λ first. MatchOption first
+        ensures first { MatchOption result
             (AreAll (IsCovered self.now.rows.items kind) from to)
-            (IsFirstWithout (IsCovered self.now.rows.items kind) from to)) }
+            (IsFirstWithout (IsCovered self.now.rows.items kind) from to) }
     {
-        let covered = days_of(alloc, self.rows.as_slice(), kind, true)?;
-        Ok(covered.first_missing(from, to))
+        let mut day = from;
+        while day <= to {
+            let until = covered_until(self.rows.as_slice(), kind, day);
+            if until == day {
+                return Some(day);
+            }
+            day = until;
+        }
+        None
     }
 }

@@ -19,8 +19,8 @@ fn day_before(day: i64) -> i64
     day - 1
 }
 
-// The day after one.
-fn day_after(day: i64) -> i64
+/// The day after one.
+pub(crate) fn day_after(day: i64) -> i64
     requires { IsCalendarDay day }
     ensures after { result ≡ day +ℤ pos 1 }
 {

@@ -1,16 +1,22 @@
--- A text with a holiday for which all is given has a table and years.
-use Rattle.std.proofs.Common.{◌≡◌, refl, subst, ℕ, List, [], ◌∷◌, Bool, true, false, Option, Some, None}
+-- A rule with holidays for which all is given has a table and years, and its holidays have days.
+use Rattle.std.proofs.Common.{◌≡◌, refl, subst, ℕ, List, [], ◌∷◌, Bool, true, false, length, Option, Some, None, arith}
+use Rattle.std.proofs.Common.{Result, Ok, Err, Vec, Global, zero, suc}
 use Rattle.std.proofs.lemmas.Bool.{false≢true}
-use Rattle.std.specs.Prelude.{IsSome, if◌then◌else◌}
+use Rattle.std.specs.Prelude.{IfErr, IfOk, IsSome, ◌||◌, ◌==◌, drop, if◌then◌else◌}
 use Rattle.gtd_hours_days.specs.declared.listed.Listed.{Listed}
 use Rattle.gtd_hours_holidays.specs.declared.holidays.Holidays.{Holidays}
 use Rattle.gtd_hours_holidays.specs.declared.known_years.KnownYears.{KnownYears}
 use Rattle.gtd_hours_holiday_rules.specs.declared.rules.HolidayRule.{HolidayRule}
-use Rattle.gtd_hours_known.specs.Given.{missing, no_years, none_given, not_given, has_table, or_later}
-use Rattle.gtd_hours_known.specs.Rules.{first_holiday, first_or, first_place}
+use Rattle.gtd_hours_known.specs.Given.{AreAllGiven, no_years, none_given, not_given, has_table, or_later}
+use Rattle.gtd_hours_known.specs.HolidayDays.{AreDaysOf}
+use Rattle.gtd_hours_known.specs.Needs.{closes, fallback_fault, first_need, first_open, need_of, unknown_fault}
+use Rattle.gtd_hours_known.specs.Rules.{AreGivenDays, IsDaysStop, IsGiven, IsRuleStop, first_place}
 use Rattle.gtd_hours_known.specs.declared.fault.KnownFault.{KnownFault}
 use Rattle.gtd_hours_known.specs.declared.fault.KnownFault.TheVariants as fault
 use Rattle.gtd_hours_known.specs.declared.known.Known.{Known}
+use Rattle.gtd_hours_known.specs.declared.rules.RulesStop.{RulesStop}
+use Rattle.gtd_hours_known.specs.declared.rules.RulesStop.TheVariants as stop
+use Rattle.gtd_hours.specs.declared.hours.Selector.{Selector}
 
 none_of : (a b : Option KnownFault) → or_later a b ≡ None → (a ≡ None) × (b ≡ None)
 none_of None b e = (refl, e)
@@ -38,29 +44,63 @@ of_holiday known h place e =
     let both = of_test (has_table known.holidays h) known.years place e in
     (of_table known.holidays h both.0, of_years known.years place both.1)
 
-of_rule : (known : Known) (holidays : List Listed) (places : List ℕ) (later : Option ℕ) (place : ℕ)
-    → first_or holidays places later ≡ Some place → none_given known holidays places ≡ None
-    → (later ≡ Some place → AreGiven known.holidays known.years) → AreGiven known.holidays known.years
-of_rule known [] places later place first none rest = rest first
-of_rule known (h ∷ holidays) places later place first none rest =
+is_given : (known : Known) (holidays : List Listed) (places : List ℕ) → (length holidays ≡ 0 → ⊥)
+    → none_given known holidays places ≡ None → AreGiven known.holidays known.years
+is_given known [] places some none = absurd (some refl)
+is_given known (h ∷ holidays) places some none =
     of_holiday known h (first_place places) (none_of (not_given known h (first_place places)) _ none).0
 
-are_given : (known : Known) (rules : List HolidayRule) (place : ℕ) → first_holiday rules ≡ Some place
-    → missing known rules ≡ None → AreGiven known.holidays known.years
-are_given known [] place first none = absurd cc
-are_given known (rule ∷ rules) place first none =
-    let both = none_of (none_given known rule.holidays.items rule.places.items) (missing known rules) none in
-    of_rule known rule.holidays.items rule.places.items (first_holiday rules) place first both.0
-    (λ e. are_given known rules place e both.1)
-
-pub no_table : (known : Known) (rules : List HolidayRule) (place : ℕ) → first_holiday rules ≡ Some place
-    → missing known rules ≡ None → known.holidays ≡ None → ⊥
-no_table known rules place first none e =
-    let bad : false ≡ true = subst (λ (o : Option Holidays). IsSome o) e (are_given known rules place first none).0 in
+pub no_table : (known : Known) (holidays : List Listed) (places : List ℕ) → (length holidays ≡ 0 → ⊥)
+    → none_given known holidays places ≡ None → known.holidays ≡ None → ⊥
+no_table known holidays places some none e =
+    let bad : false ≡ true = subst (λ (o : Option Holidays). IsSome o) e (is_given known holidays places some none).0 in
     absurd (false≢true bad)
 
-pub no_years_given : (known : Known) (rules : List HolidayRule) (place : ℕ) → first_holiday rules ≡ Some place
-    → missing known rules ≡ None → known.years ≡ None → ⊥
-no_years_given known rules place first none e =
-    let bad : false ≡ true = subst (λ (o : Option KnownYears). IsSome o) e (are_given known rules place first none).1 in
+pub no_years_given : (known : Known) (holidays : List Listed) (places : List ℕ) → (length holidays ≡ 0 → ⊥)
+    → none_given known holidays places ≡ None → known.years ≡ None → ⊥
+no_years_given known holidays places some none e =
+    let bad : false ≡ true = subst (λ (o : Option KnownYears). IsSome o) e (is_given known holidays places some none).1 in
     absurd (false≢true bad)
+
+-- rules that need nothing have all that is given
+pub all_given : (known : Known) (closed : Bool) (rules : List HolidayRule) (opened : List Bool)
+    → first_need known closed rules opened ≡ None → AreAllGiven known rules
+all_given known closed [] opened e = tt
+all_given known closed (rule ∷ rules) opened e =
+    let both = none_of (need_of known rule rules closed (first_open opened))
+    (first_need known (closed || closes rule (first_open opened)) rules (drop 1 opened)) e in
+    let inner = none_of (fallback_fault rule closed (first_open opened))
+    (or_later (none_given known rule.holidays.items rule.places.items) (unknown_fault rule rules)) both.0 in
+    let own = none_of (none_given known rule.holidays.items rule.places.items) (unknown_fault rule rules) inner.1 in
+    (own.0, all_given known (closed || closes rule (first_open opened)) rules (drop 1 opened) both.1)
+
+-- ---- the days of a rule's holidays
+
+pub not_none : (n : ℕ) → false ≡ (n == 0) → n ≡ 0 → ⊥
+not_none zero f e = false≢true f
+not_none (suc n) f e = absurd (omega (arith, e))
+
+days_given : (known : Known) (table : Holidays) (years : KnownYears) (holidays : List Listed) (days : List Selector)
+    → (length holidays ≡ 0 → ⊥) → IsGiven known table years → AreDaysOf table years holidays days
+    → AreGivenDays known holidays days
+days_given known table years [] days some given are = absurd (some refl)
+days_given known table years (h ∷ holidays) days some given are = (table, years, given, are)
+
+pub found_days : (known : Known) (table : Holidays) (years : KnownYears) (holidays : List Listed)
+    (read : Result (Vec Selector Global) RulesStop) → (length holidays ≡ 0 → ⊥) → IsGiven known table years
+    → IfOk read (λ days. AreDaysOf table years holidays days.items)
+    → IfOk read (λ days. AreGivenDays known holidays days.items)
+found_days known table years holidays (Ok days) some given are =
+    days_given known table years holidays days.items some given are
+found_days known table years holidays (Err why) some given are = tt
+
+days_stop : (known : Known) (table : Holidays) (years : KnownYears) (from : HolidayRule) (why : RulesStop)
+    → IsGiven known table years → IsDaysStop table years from why → IsRuleStop known from why
+days_stop known table years from (stop.Uncovered place day) given is = (table, years, given, is)
+days_stop known table years from stop.NoMemory given is = tt
+
+pub no_found_days : (known : Known) (table : Holidays) (years : KnownYears) (from : HolidayRule)
+    (read : Result (Vec Selector Global) RulesStop) → IsGiven known table years
+    → IfErr read (IsDaysStop table years from) → IfErr read (IsRuleStop known from)
+no_found_days known table years from (Ok days) given is = tt
+no_found_days known table years from (Err why) given is = days_stop known table years from why given is

@@ -6,3 +6,6 @@ pub mod ReadingFacts
 pub mod MatchFacts
 pub mod PlainReadings
 pub mod GivenFacts
+pub mod SaidDays
+pub mod SaidRules
+pub mod ApartFacts

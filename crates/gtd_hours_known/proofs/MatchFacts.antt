@@ -8,6 +8,7 @@ use Rattle.gtd_hours.specs.Writable.{selectors}
 use Rattle.gtd_hours.specs.declared.hours.Kind.{Kind}
 use Rattle.gtd_hours.specs.declared.hours.Selector.{Selector}
 use Rattle.gtd_hours_known.specs.Joining.{has_weekdays, last_with, names_weekdays, with_days}
+use Rattle.gtd_hours_known.specs.Said.{EachHoldsOr, MatchesBy}
 use Rattle.gtd_hours_known.proofs.JoiningLemmas.{days_last, kind_more}
 
 -- of each kind of selectors one holds
@@ -129,3 +130,45 @@ joined_matches IsDay days rule made others weekdays split e are is n =
           let all = (each_last (selectors others) last n f).1 (each_of others n f h.2, (some, tt)) in
           (f, h.1, each_holds made n f (subst (λ (l : List (List Selector)). EachOf l n f) (sym same) all))),
     )
+
+-- ---- the same by the last kind
+
+joined_last : (IsDay : Type 0) (days kind : List Selector) (n : ℤ) (f : DayFields) → names_weekdays kind ≡ true
+    → (SomeHolds days n f ↔ IsDay) → EachOf (last_with false days kind) n f ↔ (SomeHolds kind n f ⊎ IsDay)
+joined_last IsDay days kind n f e is =
+    let both = some_append kind days n f in
+    let same = joined_shape days kind e in (
+      (λ h. elim (both.0 (subst (λ (l : List (List Selector)). EachOf l n f) same h).0) [
+        | inl a ↦ inl a
+        | inr a ↦ inr (is.0 a)
+      ]),
+      (λ h. subst (λ (l : List (List Selector)). EachOf l n f) (sym same)
+          (both.1 (elim h [ inl a ↦ inl a | inr a ↦ inr (is.1 a) ]), tt)),
+    )
+
+beside_kinds : (IsDay : Type 0) (days : List Selector) (kinds : List Kind) (n : ℤ) (f : DayFields)
+    → has_weekdays (selectors kinds) ≡ true → (SomeHolds days n f ↔ IsDay)
+    → EachOf (with_days false days (selectors kinds)) n f ↔ EachHoldsOr IsDay kinds n f
+beside_kinds IsDay days [] n f e is = absurd cc
+beside_kinds IsDay days (kind ∷ []) n f e is = joined_last IsDay days kind.selectors.items n f e is
+beside_kinds IsDay days (kind ∷ more ∷ kinds) n f e is =
+    let rest = beside_kinds IsDay days (more ∷ kinds) n f e is in ((λ h. (h.0, rest.0 h.1)), (λ h. (h.0, rest.1 h.1)))
+
+pub beside_matches : (IsDay : ℤ → Type 0) (days : List Selector) (rule made : List Kind)
+    → has_weekdays (selectors rule) ≡ true → selectors made ≡ with_days false days (selectors rule)
+    → ((n : ℤ) (f : DayFields) → SomeHolds days n f ↔ IsDay n) → (n : ℤ)
+    → Matches made n ↔ MatchesBy false (IsDay n) rule n
+beside_matches IsDay days rule made e are is n = (
+  (λ h.
+      let all = subst (λ (l : List (List Selector)). EachOf l n h.0) are (each_of made n h.0 h.2) in
+      (h.0, h.1, (beside_kinds (IsDay n) days rule n h.0 e (is n h.0)).0 all)),
+  (λ h.
+      let all = (beside_kinds (IsDay n) days rule n h.0 e (is n h.0)).1 h.2 in
+      (h.0, h.1, each_holds made n h.0 (subst (λ (l : List (List Selector)). EachOf l n h.0) (sym are) all))),
+)
+
+-- ---- kinds of the same selectors
+
+pub same_matches : (one other : List Kind) (n : ℤ) → selectors one ≡ selectors other → Matches one n → Matches other n
+same_matches one other n e h =
+    (h.0, h.1, each_holds other n h.0 (subst (λ (l : List (List Selector)). EachOf l n h.0) e (each_of one n h.0 h.2)))

@@ -1,51 +1,154 @@
--- Hours that are read without holidays are those that are read plainly.
-use Rattle.std.proofs.Common.{◌≡◌, ◌∙◌, refl, sym, ℕ, List, length, Option, Some, None}
+-- Hours that are read without holidays, comments, unknown and fallback rules are those that are read plainly.
+use Rattle.std.proofs.Common.{◌≡◌, ◌∙◌, refl, sym, ap, subst, ℕ, Bool, List, [], ◌∷◌, length, Option, Some, None}
+use Rattle.std.specs.Prelude.{◌||◌, drop}
 use Rattle.gtd_hours.specs.declared.hours.Hours.{Hours}
+use Rattle.gtd_hours.specs.declared.hours.Rule.{Rule}
+use Rattle.gtd_hours.specs.declared.hours.Selector.{Selector}
+use Rattle.gtd_hours_days.specs.declared.listed.Listed.{Listed}
 use Rattle.gtd_hours_text.specs.Standing.{StandsFor}
 use Rattle.gtd_hours_loose.specs.Manners.{IsReadingIn}
-use Rattle.gtd_hours_loose.specs.Reading.{IsLooseReading}
+use Rattle.gtd_hours_loose.specs.Reading.{IsLooseReading, IsStrict}
 use Rattle.gtd_hours_loose.specs.Reading as loose
 use Rattle.gtd_hours_loose.specs.declared.manner.Manner.{Manner}
 use Rattle.gtd_hours_loose.specs.declared.manner.Manner.TheVariants as manner
 use Rattle.gtd_hours_loose.specs.declared.reader.LooseHours.{LooseHours}
 use Rattle.gtd_hours_loose.specs.declared.strict.Part.{Part}
+use Rattle.gtd_hours_loose.specs.declared.strict.StrictForm.{StrictForm}
 use Rattle.gtd_hours_loose_tokens.specs.declared.token.DayNames.{DayNames}
-use Rattle.gtd_hours_known.specs.Manners.{IsKnownLooseReading, IsKnownReadingIn, mended, placed_holiday, strict}
-use Rattle.gtd_hours_known.specs.Reading.{KnownStandsFor, listed, plain}
+use Rattle.gtd_hours_holiday_rules.specs.declared.rules.HolidayRule.{HolidayRule}
+use Rattle.gtd_hours_holiday_rules.specs.declared.text.HolidayText.{HolidayText}
+use Rattle.gtd_hours_known.specs.Given.{none_given, or_later}
+use Rattle.gtd_hours_known.specs.Manners.{IsKnownLooseReading, IsKnownReadingIn, IsPlaced, mended, placed_holiday, placed_places}
+use Rattle.gtd_hours_known.specs.Manners.{strict}
+use Rattle.gtd_hours_known.specs.Marks.{HasMarks}
+use Rattle.gtd_hours_known.specs.Needs.{closes, fallback_fault, first_need, first_open, unknown_fault}
+use Rattle.gtd_hours_known.specs.Reading.{IsKnown, KnownStandsFor, listed, plain}
+use Rattle.gtd_hours_known.specs.Rules.{AreGivenDays, AreHolidayRules, IsHolidayRule, first_holiday, first_or}
+use Rattle.gtd_hours_known.specs.declared.fault.KnownFault.{KnownFault}
 use Rattle.gtd_hours_known.specs.declared.known.Known.{Known}
 use Rattle.gtd_hours_known.specs.declared.known.KnownHours.{KnownHours}
 
-plain_loose : (names : DayNames) (known : Known) (text : List ℕ) (read : LooseHours) → IsLooseReading names text read
-    → IsKnownLooseReading names known text (record { hours = read.hours; form = read.form; first_holiday = None })
-plain_loose names known text read (loose.strict none stands) = strict none stands refl
-plain_loose names known text read (loose.mended form other e is stands) =
-    mended form None other e is (plain stands refl) refl
+-- ---- plain hours are read
 
-pub as_plain : (m : Manner) (known : Known) (text : List ℕ) (read : LooseHours) → IsReadingIn m text read
-    → IsKnownReadingIn m known text (record { hours = read.hours; form = read.form; first_holiday = None })
-as_plain manner.Strict known text read is = (plain is.0 refl, is.1)
-as_plain (manner.Loose names) known text read is = plain_loose names known text read is
+marks_placed : (end : ℕ) (form : StrictForm) (made : KnownHours) → HasMarks [] made → made.form ≡ Some form
+    → IsPlaced end form made made
+marks_placed end form made marks is = record {
+  hours = refl;
+  by_form = is;
+  first = marks.first ∙ sym (ap (placed_holiday end form.parts.items) marks.first);
+  remarks = marks.remarks ∙ sym (ap (placed_places end form.parts.items) marks.remarks);
+  unknowns = marks.unknowns ∙ sym (ap (placed_places end form.parts.items) marks.unknowns);
+}
 
--- without a first holiday a text stands for its plain hours
-only_stands : (known : Known) (text : List ℕ) (hours : Hours) (first : Option ℕ) → KnownStandsFor known text hours first
-    → first ≡ None → StandsFor text hours
-only_stands known text hours first (plain stands none) e = stands
-only_stands known text hours first (listed found place other is holiday sound has at) e = absurd cc
+plain_loose : (names : DayNames) (known : Known) (text : List ℕ) (read : LooseHours) (made : KnownHours)
+    → IsLooseReading names text read → made.hours ≡ read.hours → made.form ≡ read.form → HasMarks [] made
+    → IsKnownLooseReading names known text made
+plain_loose names known text read made (loose.strict none stands) same form marks =
+    strict (form ∙ none) (subst (StandsFor text) (sym same) stands) marks
+plain_loose names known text read made (loose.mended found other e is stands) same form marks =
+    mended found made other is (plain (subst (StandsFor found.text.items) (sym same) stands) marks)
+    (marks_placed (length text) found made marks (form ∙ e))
+
+pub as_plain : (m : Manner) (known : Known) (text : List ℕ) (read : LooseHours) (made : KnownHours) → IsReadingIn m text read
+    → made.hours ≡ read.hours → made.form ≡ read.form → HasMarks [] made → IsKnownReadingIn m known text made
+as_plain manner.Strict known text read made is same form marks =
+    (plain (subst (StandsFor text) (sym same) is.0) marks, form ∙ is.1)
+as_plain (manner.Loose names) known text read made is same form marks =
+    plain_loose names known text read made is same form marks
+
+-- ---- and no others are read of them
+
+only_stands : (known : Known) (text : List ℕ) (read : KnownHours) → IsStrict text → KnownStandsFor known text read
+    → StandsFor text read.hours
+only_stands known text read is (plain stands marks) = stands
+only_stands known text read is (listed found other text_is sound has marks) = absurd (other is)
+
+only_loose : (names : DayNames) (known : Known) (text : List ℕ) (read : KnownHours) → IsStrict text
+    → IsKnownLooseReading names known text read
+    → IsLooseReading names text (record { hours = read.hours; form = read.form })
+only_loose names known text read is (strict none stands marks) = loose.strict none stands
+only_loose names known text read is (mended form own other with stands placed) = absurd (other is)
+
+pub only_plain : (m : Manner) (known : Known) (text : List ℕ) (read : KnownHours) → IsStrict text
+    → IsKnownReadingIn m known text read → IsReadingIn m text (record { hours = read.hours; form = read.form })
+only_plain manner.Strict known text read is stands = (only_stands known text read is stands.0, stands.1)
+only_plain (manner.Loose names) known text read is stands = only_loose names known text read is stands
+
+-- ---- without holidays nothing needs to be known
+
+no_first : (holidays : List Listed) (places : List ℕ) (later : Option ℕ) → first_or holidays places later ≡ None
+    → (holidays ≡ []) × (later ≡ None)
+no_first [] places later e = (refl, e)
+no_first (h ∷ holidays) places later e = absurd cc
+
+same_days : (known other : Known) (holidays : List Listed) (days : List Selector) → holidays ≡ []
+    → AreGivenDays known holidays days → AreGivenDays other holidays days
+same_days known other [] days none are = are
+same_days known other (h ∷ holidays) days none are = absurd cc
+
+same_rule : (known other : Known) (from : HolidayRule) (made : List Rule) → from.holidays.items ≡ []
+    → IsHolidayRule known from made → IsHolidayRule other from made
+same_rule known other from made none is = record {
+  plain = is.plain;
+  days = is.days;
+  stands = is.stands;
+  listed = same_days known other from.holidays.items is.days none is.listed;
+  are = is.are;
+}
+
+same_rules : (known other : Known) (rules : List HolidayRule) (made : List Rule) → first_holiday rules ≡ None
+    → AreHolidayRules known rules made → AreHolidayRules other rules made
+same_rules known other [] made none are = are
+same_rules known other (rule ∷ rules) made none are =
+    let both = no_first rule.holidays.items rule.places.items (first_holiday rules) none in
+    (are.0, are.1, same_rule known other rule are.0 both.0 are.2, same_rules known other rules are.1 both.1 are.3, are.4)
+
+same_given : (known other : Known) (holidays : List Listed) (places : List ℕ) → holidays ≡ []
+    → none_given known holidays places ≡ none_given other holidays places
+same_given known other [] places none = refl
+same_given known other (h ∷ holidays) places none = absurd cc
+
+same_need : (known other : Known) (closed : Bool) (rules : List HolidayRule) (opened : List Bool)
+    → first_holiday rules ≡ None → first_need known closed rules opened ≡ first_need other closed rules opened
+same_need known other closed [] opened none = refl
+same_need known other closed (rule ∷ rules) opened none =
+    let both = no_first rule.holidays.items rule.places.items (first_holiday rules) none in
+    ap (λ (o : Option KnownFault). or_later (or_later (fallback_fault rule closed (first_open opened))
+    (or_later o (unknown_fault rule rules)))
+    (first_need known (closed || closes rule (first_open opened)) rules (drop 1 opened)))
+    (same_given known other rule.holidays.items rule.places.items both.0)
+    ∙ ap (λ (o : Option KnownFault). or_later (or_later (fallback_fault rule closed (first_open opened))
+    (or_later (none_given other rule.holidays.items rule.places.items) (unknown_fault rule rules))) o)
+    (same_need known other (closed || closes rule (first_open opened)) rules (drop 1 opened) both.1)
+
+same_known : (known other : Known) (found : HolidayText) (hours : Hours) → first_holiday found.rules.items ≡ None
+    → IsKnown known found hours → IsKnown other found hours
+same_known known other found hours none is = record {
+  opened = is.opened;
+  are_open = is.are_open;
+  no_need = sym (same_need known other _ found.rules.items is.opened none) ∙ is.no_need;
+  rules = same_rules known other found.rules.items hours.rules.items none is.rules;
+}
+
+same_stands : (known other : Known) (text : List ℕ) (read : KnownHours) → KnownStandsFor known text read
+    → read.first_holiday ≡ None → KnownStandsFor other text read
+same_stands known other text read (plain stands marks) e = plain stands marks
+same_stands known other text read (listed found other_text is sound has marks) e =
+    listed found other_text is sound (same_known known other found read.hours (sym marks.first ∙ e) has) marks
 
 none_placed : (end : ℕ) (parts : List Part) (first : Option ℕ) → placed_holiday end parts first ≡ None → first ≡ None
 none_placed end parts None e = refl
 none_placed end parts (Some place) e = absurd cc
 
-only_loose : (names : DayNames) (known : Known) (text : List ℕ) (read : KnownHours) → IsKnownLooseReading names known text read
-    → read.first_holiday ≡ None → IsLooseReading names text (record { hours = read.hours; form = read.form })
-only_loose names known text read (strict none stands at) e = loose.strict none stands
-only_loose names known text read (mended form first other with is stands at) e =
-    loose.mended form other with is
-    (only_stands known form.text.items read.hours first stands
-    (none_placed (length text) form.parts.items first (sym at ∙ e)))
+same_loose : (names : DayNames) (known other : Known) (text : List ℕ) (read : KnownHours)
+    → IsKnownLooseReading names known text read → read.first_holiday ≡ None → IsKnownLooseReading names other text read
+same_loose names known other text read (strict none stands marks) e = strict none stands marks
+same_loose names known other text read (mended form own other_text is stands placed) e =
+    mended form own other_text is
+    (same_stands known other form.text.items own stands
+    (none_placed (length text) form.parts.items own.first_holiday (sym placed.first ∙ e))) placed
 
-pub only_plain : (m : Manner) (known : Known) (text : List ℕ) (read : KnownHours) → IsKnownReadingIn m known text read
-    → read.first_holiday ≡ None → IsReadingIn m text (record { hours = read.hours; form = read.form })
-only_plain manner.Strict known text read is e =
-    (only_stands known text read.hours read.first_holiday is.0 e, is.1)
-only_plain (manner.Loose names) known text read is e = only_loose names known text read is e
+pub same_reading : (m : Manner) (known other : Known) (text : List ℕ) (read : KnownHours) → IsKnownReadingIn m known text read
+    → read.first_holiday ≡ None → IsKnownReadingIn m other text read
+same_reading manner.Strict known other text read is e = (same_stands known other text read is.0 e, is.1)
+same_reading (manner.Loose names) known other text read is e = same_loose names known other text read is e

@@ -1,12 +1,11 @@
 -- The hours of a text with holidays, and its first fault.
-use Rattle.std.proofs.Common.{◌≡◌, refl, inl, inr, ℕ, List, length, Some, None, Result, Ok, Err}
+use Rattle.std.proofs.Common.{◌≡◌, ◌∙◌, refl, sym, ap, inl, inr, ℕ, Bool, false, List, length, Option, None, Result, Ok, Err}
 use Rattle.std.specs.Prelude.{IfErr, IfOk}
 use Rattle.gtd_hours_grammar.specs.Faults.{IsFirstFault}
 use Rattle.gtd_hours_grammar.specs.declared.fault.HoursFault.{HoursFault}
 use Rattle.gtd_hours_grammar.specs.facts.FirstFault.{hours_or_fault}
-use Rattle.gtd_hours_holidays.specs.declared.holidays.Holidays.{Holidays}
-use Rattle.gtd_hours_holidays.specs.declared.known_years.KnownYears.{KnownYears}
 use Rattle.gtd_hours_holiday_rules.specs.Reading.{IsHolidayText, IsNoHolidayText}
+use Rattle.gtd_hours_holiday_rules.specs.declared.rules.HolidayRule.{HolidayRule}
 use Rattle.gtd_hours_holiday_rules.specs.declared.stop.NoHolidayText.{NoHolidayText}
 use Rattle.gtd_hours_holiday_rules.specs.declared.stop.NoHolidayText.TheVariants as stop
 use Rattle.gtd_hours_holiday_rules.specs.declared.text.HolidayText.{HolidayText}
@@ -17,14 +16,15 @@ use Rattle.gtd_hours_loose_tokens.specs.declared.stop.LooseStop.{LooseStop}
 use Rattle.gtd_hours_loose_tokens.specs.declared.stop.LooseStop.TheVariants as loose_stop
 use Rattle.gtd_hours_loose_tokens.specs.declared.token.DayNames.{DayNames}
 use Rattle.gtd_hours_known.specs.Faults.{stopped}
-use Rattle.gtd_hours_known.specs.Given.{missing}
+use Rattle.gtd_hours_known.specs.Marks.{HasMarks}
+use Rattle.gtd_hours_known.specs.Needs.{first_need}
 use Rattle.gtd_hours_loose.specs.declared.manner.Manner.TheVariants as manner
 use Rattle.gtd_hours_known.specs.Manners.{IsKnownLooseStop, IsKnownReadingIn, IsMendedStop, no_form, placed}
 use Rattle.gtd_hours_known.specs.Manners as manners
 use Rattle.gtd_hours_known.specs.Reading.{IsHolidayFault, IsHolidayStop, IsKnown, IsKnownStop, IsOtherStop, IsSound}
 use Rattle.gtd_hours_known.specs.Reading.{IsTableStop, IsUnsound}
 use Rattle.gtd_hours_known.specs.Reading.{KnownStandsFor, checked, own, listed, token, uncovered, within}
-use Rattle.gtd_hours_known.specs.Rules.{AreHolidayRules, first_holiday}
+use Rattle.gtd_hours_known.specs.Rules.{AreHolidayRules, AreOpen}
 use Rattle.gtd_hours_known.specs.declared.fault.KnownFault.{KnownFault}
 use Rattle.gtd_hours_known.specs.declared.fault.KnownFault.TheVariants as fault
 use Rattle.gtd_hours_known.specs.declared.fault.KnownReadFault.{KnownReadFault}
@@ -48,25 +48,22 @@ pub no_text : (known : Known) (text : List ℕ) (why : NoHolidayText) → IsNoHo
 no_text known text (stop.BadToken place) is = token place is refl
 no_text known text stop.NoMemory is = tt
 
-pub listed_hours : (known : Known) (text : List ℕ) (found : HolidayText) (place : ℕ) (read : Result KnownHours KnownReadFault)
-    → (IsStrict text → ⊥) → IsHolidayText text found → first_holiday found.rules.items ≡ Some place
-    → IfOk read (λ r. IsSound found) → IfOk read (λ r. IsKnown known found r.hours)
-    → IfOk read (λ r. r.first_holiday ≡ Some place)
-    → IfOk read (λ r. KnownStandsFor known text r.hours r.first_holiday)
-listed_hours known text found place (Ok r) other is first sound has at = listed found place other is first sound has at
-listed_hours known text found place (Err why) other is first sound has at = tt
+pub listed_hours : (known : Known) (text : List ℕ) (found : HolidayText) (read : Result KnownHours KnownReadFault)
+    → (IsStrict text → ⊥) → IsHolidayText text found → IfOk read (λ r. IsSound found)
+    → IfOk read (λ r. IsKnown known found r.hours) → IfOk read (HasMarks found.rules.items)
+    → IfOk read (KnownStandsFor known text)
+listed_hours known text found (Ok r) other is sound has marks = listed found other is sound has marks
+listed_hours known text found (Err why) other is sound has marks = tt
 
-listed_stop : (known : Known) (text : List ℕ) (found : HolidayText) (place : ℕ) (why : KnownReadFault)
-    → IsHolidayText text found → first_holiday found.rules.items ≡ Some place → IsHolidayStop known found why
-    → IsOtherStop known text why
-listed_stop known text found place (reading.Fault bad) is first fault = within found place is first fault
-listed_stop known text found place reading.NoMemory is first fault = tt
+listed_stop : (known : Known) (text : List ℕ) (found : HolidayText) (why : KnownReadFault) → IsHolidayText text found
+    → IsHolidayStop known found why → IsOtherStop known text why
+listed_stop known text found (reading.Fault bad) is fault = within found is fault
+listed_stop known text found reading.NoMemory is fault = tt
 
-pub listed_fault : (known : Known) (text : List ℕ) (found : HolidayText) (place : ℕ) (read : Result KnownHours KnownReadFault)
-    → IsHolidayText text found → first_holiday found.rules.items ≡ Some place → IfErr read (IsHolidayStop known found)
-    → IfErr read (IsOtherStop known text)
-listed_fault known text found place (Ok r) is first fault = tt
-listed_fault known text found place (Err why) is first fault = listed_stop known text found place why is first fault
+pub listed_fault : (known : Known) (text : List ℕ) (found : HolidayText) (read : Result KnownHours KnownReadFault)
+    → IsHolidayText text found → IfErr read (IsHolidayStop known found) → IfErr read (IsOtherStop known text)
+listed_fault known text found (Ok r) is fault = tt
+listed_fault known text found (Err why) is fault = listed_stop known text found why is fault
 
 -- ---- a text that is no plain hours
 
@@ -103,46 +100,51 @@ pub loose_fault : (names : DayNames) (known : Known) (text : List ℕ) (read : R
 loose_fault names known text (Ok r) other f = tt
 loose_fault names known text (Err why) other f = loose_stop_of names known text why other f
 
--- ---- a text with holidays, with a table and years
+-- ---- a text whose rules need nothing
 
-pub known_hours : (known : Known) (found : HolidayText) (table : Holidays) (years : KnownYears)
-    (read : Result KnownHours KnownReadFault) → known.holidays ≡ Some table → known.years ≡ Some years
-    → missing known found.rules.items ≡ None
-    → IfOk read (λ r. AreHolidayRules table years found.rules.items r.hours.rules.items)
+-- what the code asks for is what they need
+pub same_need : (known : Known) (found : HolidayText) (opened : List Bool) (rules : List HolidayRule) (slice : List Bool)
+    (need : Option KnownFault) → need ≡ first_need known false rules slice → rules ≡ found.rules.items → slice ≡ opened
+    → first_need known false found.rules.items opened ≡ need
+same_need known found opened rules slice need e f g =
+    sym (e ∙ ap (λ (rs : List HolidayRule). first_need known false rs slice) f
+    ∙ ap (λ (l : List Bool). first_need known false found.rules.items l) g)
+
+pub known_hours : (known : Known) (found : HolidayText) (opened : List Bool) (read : Result KnownHours KnownReadFault)
+    → AreOpen found.rules.items opened → first_need known false found.rules.items opened ≡ None
+    → IfOk read (λ r. AreHolidayRules known found.rules.items r.hours.rules.items)
     → IfOk read (λ r. IsKnown known found r.hours)
-known_hours known found table years (Ok r) has_table has_years given are = record {
-  table = table;
-  years = years;
-  given = given;
-  has_table = has_table;
-  has_years = has_years;
+known_hours known found opened (Ok r) are_open no_need are = record {
+  opened = opened;
+  are_open = are_open;
+  no_need = no_need;
   rules = are;
 }
-known_hours known found table years (Err why) has_table has_years given are = tt
+known_hours known found opened (Err why) are_open no_need are = tt
 
-table_stop : (known : Known) (found : HolidayText) (table : Holidays) (years : KnownYears) (why : KnownReadFault)
-    → IsSound found → missing known found.rules.items ≡ None → known.holidays ≡ Some table → known.years ≡ Some years
-    → IsTableStop table years found.rules.items why → IsHolidayStop known found why
-table_stop known found table years (reading.Fault (fault.Uncovered at day)) sound given has_table has_years un =
-    uncovered table years at day sound given has_table has_years un refl
-table_stop known found table years (reading.Fault (fault.Hours bad)) sound given has_table has_years un = absurd un
-table_stop known found table years (reading.Fault (fault.Ambiguous at)) sound given has_table has_years un = absurd un
-table_stop known found table years (reading.Fault (fault.Holidays at)) sound given has_table has_years un = absurd un
-table_stop known found table years (reading.Fault (fault.Years at)) sound given has_table has_years un = absurd un
-table_stop known found table years reading.NoMemory sound given has_table has_years un = tt
+table_stop : (known : Known) (found : HolidayText) (opened : List Bool) (why : KnownReadFault) → IsSound found
+    → AreOpen found.rules.items opened → first_need known false found.rules.items opened ≡ None
+    → IsTableStop known found.rules.items why → IsHolidayStop known found why
+table_stop known found opened (reading.Fault (fault.Uncovered at day)) sound are_open no_need un =
+    uncovered opened at day sound are_open no_need un refl
+table_stop known found opened (reading.Fault (fault.Hours bad)) sound are_open no_need un = absurd un
+table_stop known found opened (reading.Fault (fault.Ambiguous at)) sound are_open no_need un = absurd un
+table_stop known found opened (reading.Fault (fault.Holidays at)) sound are_open no_need un = absurd un
+table_stop known found opened (reading.Fault (fault.Years at)) sound are_open no_need un = absurd un
+table_stop known found opened (reading.Fault (fault.Unknown at)) sound are_open no_need un = absurd un
+table_stop known found opened reading.NoMemory sound are_open no_need un = tt
 
-pub table_fault : (known : Known) (found : HolidayText) (table : Holidays) (years : KnownYears)
-    (read : Result KnownHours KnownReadFault) → IsSound found → missing known found.rules.items ≡ None
-    → known.holidays ≡ Some table → known.years ≡ Some years
-    → IfErr read (IsTableStop table years found.rules.items) → IfErr read (IsHolidayStop known found)
-table_fault known found table years (Ok r) sound given has_table has_years un = tt
-table_fault known found table years (Err why) sound given has_table has_years un =
-    table_stop known found table years why sound given has_table has_years un
+pub table_fault : (known : Known) (found : HolidayText) (opened : List Bool) (read : Result KnownHours KnownReadFault)
+    → IsSound found → AreOpen found.rules.items opened → first_need known false found.rules.items opened ≡ None
+    → IfErr read (IsTableStop known found.rules.items) → IfErr read (IsHolidayStop known found)
+table_fault known found opened (Ok r) sound are_open no_need un = tt
+table_fault known found opened (Err why) sound are_open no_need un =
+    table_stop known found opened why sound are_open no_need un
 
 -- ---- a text that is read as it is written
 
 pub strict_reading : (known : Known) (text : List ℕ) (read : Result KnownHours KnownReadFault)
-    → IfOk read (λ r. KnownStandsFor known text r.hours r.first_holiday) → IfOk read (λ r. r.form ≡ None)
+    → IfOk read (KnownStandsFor known text) → IfOk read (λ r. r.form ≡ None)
     → IfOk read (IsKnownReadingIn manner.Strict known text)
 strict_reading known text (Ok r) stands none = (stands, none)
 strict_reading known text (Err why) stands none = tt

@@ -1,13 +1,13 @@
--- The rules of a text with holidays, one after another.
-use Rattle.std.proofs.Common.{◌≡◌, refl, sym, subst, inl, inr, ℕ, ℤ, List, [], ◌∷◌, ◌++◌, append_assoc, length, arith}
+-- The rules of a text, one after another.
+use Rattle.std.proofs.Common.{◌≡◌, refl, sym, subst, inl, inr, ℕ, ℤ, Bool, List, [], ◌∷◌, ◌++◌, append_assoc, length, arith}
 use Rattle.std.proofs.lemmas.List.{append-nil}
 use Rattle.gtd_hours.specs.declared.hours.Rule.{Rule}
 use Rattle.gtd_hours.specs.declared.hours.Selector.{Selector}
-use Rattle.gtd_hours_holidays.specs.declared.holidays.Holidays.{Holidays}
-use Rattle.gtd_hours_holidays.specs.declared.known_years.KnownYears.{KnownYears}
+use Rattle.gtd_hours_days.specs.declared.listed.Listed.{Listed}
 use Rattle.gtd_hours_holiday_rules.specs.declared.rules.HolidayRule.{HolidayRule}
-use Rattle.gtd_hours_known.specs.Rules.{AreHolidayRules, AreWithHolidays, HasHolidays, IsHolidayRule, IsHolidayUncovered}
-use Rattle.gtd_hours_known.specs.Rules.{IsRuleStop, IsRulesStop}
+use Rattle.gtd_hours_known.specs.Rules.{AreAllSaid, AreGivenDays, AreHolidayRules, AreOpen, AreWithHolidays, HasHolidays}
+use Rattle.gtd_hours_known.specs.Rules.{IsHolidayRule, IsHolidayUncovered, IsRuleStop, IsRulesStop, Opens}
+use Rattle.gtd_hours_known.specs.declared.known.Known.{Known}
 use Rattle.gtd_hours_known.specs.declared.rules.RulesStop.{RulesStop}
 use Rattle.gtd_hours_known.specs.declared.rules.RulesStop.TheVariants as stop
 
@@ -21,44 +21,62 @@ with_more from days [] (r ∷ made) p m are has = absurd are
 with_more from days (q ∷ plain) [] p m are has = absurd are
 
 -- the rules so far, with those of the rules of the text that are left, are all
-abbrev pub AreJoined : Holidays → KnownYears → List HolidayRule → List HolidayRule → List Rule → Type 0
-AreJoined table years all rest made =
-    (others : List Rule) → AreHolidayRules table years rest others → AreHolidayRules table years all (made ++ others)
+abbrev pub AreJoined : Known → List HolidayRule → List HolidayRule → List Rule → Type 0
+AreJoined known all rest made =
+    (others : List Rule) → AreHolidayRules known rest others → AreHolidayRules known all (made ++ others)
 
-pub joined_more : (table : Holidays) (years : KnownYears) (all : List HolidayRule) (rule : HolidayRule)
-    (more : List HolidayRule) (made own : List Rule) → AreJoined table years all (rule ∷ more) made
-    → IsHolidayRule table years rule own → AreJoined table years all more (made ++ own)
-joined_more table years all rule more made own joins is others are =
-    subst (AreHolidayRules table years all) (sym (append_assoc made own others))
-    (joins (own ++ others) (own, others, is, are, refl))
+pub joined_more : (known : Known) (all : List HolidayRule) (rule : HolidayRule) (more : List HolidayRule)
+    (made own : List Rule) → AreJoined known all (rule ∷ more) made → IsHolidayRule known rule own
+    → AreJoined known all more (made ++ own)
+joined_more known all rule more made own joins is others are =
+    subst (AreHolidayRules known all) (sym (append_assoc made own others)) (joins (own ++ others) (own, others, is, are, refl))
 
-pub all_joined : (table : Holidays) (years : KnownYears) (all rest : List HolidayRule) (made : List Rule)
-    → AreJoined table years all rest made → rest ≡ [] → AreHolidayRules table years all made
-all_joined table years all rest made joins none =
-    subst (AreHolidayRules table years all) (append-nil made)
-    (joins [] (subst (λ (rs : List HolidayRule). AreHolidayRules table years rs []) (sym none) refl))
+pub all_joined : (known : Known) (all rest : List HolidayRule) (made : List Rule) → AreJoined known all rest made
+    → rest ≡ [] → AreHolidayRules known all made
+all_joined known all rest made joins none =
+    subst (AreHolidayRules known all) (append-nil made)
+    (joins [] (subst (λ (rs : List HolidayRule). AreHolidayRules known rs []) (sym none) refl))
 
 -- what is uncovered in the rules that are left is so in all
-abbrev pub AreCovered : Holidays → KnownYears → List HolidayRule → List HolidayRule → Type 0
-AreCovered table years all rest =
-    (place : ℕ) (day : ℤ) → IsHolidayUncovered table years rest place day → IsHolidayUncovered table years all place day
+abbrev pub AreCovered : Known → List HolidayRule → List HolidayRule → Type 0
+AreCovered known all rest =
+    (place : ℕ) (day : ℤ) → IsHolidayUncovered known rest place day → IsHolidayUncovered known all place day
 
-pub covered_more : (table : Holidays) (years : KnownYears) (all : List HolidayRule) (rule : HolidayRule)
-    (more : List HolidayRule) (own : List Rule) → AreCovered table years all (rule ∷ more)
-    → IsHolidayRule table years rule own → AreCovered table years all more
-covered_more table years all rule more own covered is place day un = covered place day (inr (is.listed.0, un))
+all_said : (known : Known) (holidays : List Listed) (days : List Selector) → AreGivenDays known holidays days
+    → AreAllSaid known holidays
+all_said known [] days are = tt
+all_said known (h ∷ holidays) days are = (are.0, are.1, are.2, are.3.0)
 
-pub rule_stop : (table : Holidays) (years : KnownYears) (all : List HolidayRule) (rule : HolidayRule)
-    (more : List HolidayRule) (why : RulesStop) → AreCovered table years all (rule ∷ more)
-    → IsRuleStop table years rule why → IsRulesStop table years all why
-rule_stop table years all rule more (stop.Uncovered place day) covered is = covered place day (inl is)
-rule_stop table years all rule more stop.NoMemory covered is = tt
+pub covered_more : (known : Known) (all : List HolidayRule) (rule : HolidayRule) (more : List HolidayRule)
+    (own : List Rule) → AreCovered known all (rule ∷ more) → IsHolidayRule known rule own → AreCovered known all more
+covered_more known all rule more own covered is place day un =
+    covered place day (inr (all_said known rule.holidays.items is.days is.listed, un))
 
-pub no_memory : (table : Holidays) (years : KnownYears) (all : List HolidayRule) (why : RulesStop) → why ≡ stop.NoMemory
-    → IsRulesStop table years all why
-no_memory table years all why e = rw e tt
+pub rule_stop : (known : Known) (all : List HolidayRule) (rule : HolidayRule) (more : List HolidayRule) (why : RulesStop)
+    → AreCovered known all (rule ∷ more) → IsRuleStop known rule why → IsRulesStop known all why
+rule_stop known all rule more (stop.Uncovered place day) covered is = covered place day (inl is)
+rule_stop known all rule more stop.NoMemory covered is = tt
+
+pub no_memory : (known : Known) (all : List HolidayRule) (why : RulesStop) → why ≡ stop.NoMemory
+    → IsRulesStop known all why
+no_memory known all why e = rw e tt
 
 -- a list without a length is empty
 pub no_rules : (rules : List HolidayRule) → length rules ≡ 0 → rules ≡ []
 no_rules [] e = refl
 no_rules (x ∷ xs) e = absurd (omega (arith, e))
+
+-- ---- whether rules are open
+
+abbrev pub AreOpenSoFar : List HolidayRule → List HolidayRule → List Bool → Type 0
+AreOpenSoFar all rest opened = (others : List Bool) → AreOpen rest others → AreOpen all (opened ++ others)
+
+pub open_more : (all : List HolidayRule) (rule : HolidayRule) (more : List HolidayRule) (opened : List Bool) (is : Bool)
+    → AreOpenSoFar all (rule ∷ more) opened → Opens rule is → AreOpenSoFar all more (opened ++ is ∷ [])
+open_more all rule more opened is so_far opens others are =
+    subst (AreOpen all) (sym (append_assoc opened (is ∷ []) others)) (so_far (is ∷ others) (opens, are))
+
+pub all_open : (all rest : List HolidayRule) (opened : List Bool) → AreOpenSoFar all rest opened → rest ≡ [] → AreOpen all opened
+all_open all rest opened so_far none =
+    subst (AreOpen all) (append-nil opened)
+    (so_far [] (subst (λ (rs : List HolidayRule). AreOpen rs []) (sym none) tt))

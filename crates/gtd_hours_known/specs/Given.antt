@@ -1,5 +1,5 @@
 -- What the holidays of a text need and is not given: a table, and years.
-use Rattle.std.specs.Prelude.{ℕ, ◌&&◌, ◌||◌, Bool, true, false, if◌then◌else◌, List, [], ◌∷◌, drop, Option, Some, None}
+use Rattle.std.specs.Prelude.{◌≡◌, ℕ, ◌&&◌, ◌||◌, Bool, true, false, if◌then◌else◌, List, [], ◌∷◌, drop, Option, Some, None}
 use Rattle.gtd_hours_days.specs.Listed.{kind_of}
 use Rattle.gtd_hours_days.specs.declared.listed.Listed.{Listed}
 use Rattle.gtd_hours_holidays.specs.declared.holidays.Holidays.{Holidays}
@@ -54,7 +54,8 @@ none_given known [] places = None
 none_given known (h ∷ holidays) places =
     or_later (not_given known h (first_place places)) (none_given known holidays (drop 1 places))
 
--- and for the first of those of some rules
-abbrev pub missing : Known → List HolidayRule → Option KnownFault
-missing known [] = None
-missing known (rule ∷ rules) = or_later (none_given known rule.holidays.items rule.places.items) (missing known rules)
+-- Nothing is missing for the holidays of each of some rules.
+abbrev pub AreAllGiven : Known → List HolidayRule → Type 0
+AreAllGiven known [] = Unit {0}
+AreAllGiven known (rule ∷ rules) =
+    (none_given known rule.holidays.items rule.places.items ≡ None) × AreAllGiven known rules

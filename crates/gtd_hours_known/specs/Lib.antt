@@ -2,8 +2,11 @@ pub mod HolidayDays
 pub mod Joining
 pub mod Rules
 pub mod Given
+pub mod Needs
+pub mod Marks
 pub mod Faults
 pub mod Reading
+pub mod Said
 pub mod Manners
 pub use Rattle.gtd_calendar.specs.Calendar
 pub use Rattle.gtd_calendar.specs.declared.day.DayFields

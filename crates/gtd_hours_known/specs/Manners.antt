@@ -1,5 +1,5 @@
--- The hours of a text with holidays where it is read strictly or loosely.
-use Rattle.std.specs.Prelude.{◌≡◌, ℕ, List, length, Option, Some, None}
+-- The hours of a text with holidays, comments, unknown and fallback rules, where it is read strictly or loosely.
+use Rattle.std.specs.Prelude.{◌≡◌, ℕ, List, [], ◌∷◌, length, Option, Some, None}
 use Rattle.gtd_hours_text.specs.Standing.{StandsFor}
 use Rattle.gtd_hours_loose.specs.Mending.{written_place}
 use Rattle.gtd_hours_loose.specs.Reading.{IsStrict}
@@ -14,6 +14,7 @@ use Rattle.gtd_hours_loose_tokens.specs.declared.token.DayNames.{DayNames}
 use Rattle.gtd_hours_loose_tokens.specs.declared.token.TokenFault.{TokenFault}
 use Rattle.gtd_hours_loose_tokens.specs.declared.token.TokenFault.TheVariants as wrong
 use Rattle.gtd_hours_known.specs.Faults.{bad_token}
+use Rattle.gtd_hours_known.specs.Marks.{HasMarks}
 use Rattle.gtd_hours_known.specs.Reading.{IsKnownFault, IsKnownStop, KnownStandsFor}
 use Rattle.gtd_hours_known.specs.declared.fault.KnownFault.{KnownFault}
 use Rattle.gtd_hours_known.specs.declared.fault.KnownFault.TheVariants as fault
@@ -32,21 +33,35 @@ placed_fault end parts (fault.Ambiguous place) = fault.Ambiguous (written_place 
 placed_fault end parts (fault.Holidays place) = fault.Holidays (written_place place end parts)
 placed_fault end parts (fault.Years place) = fault.Years (written_place place end parts)
 placed_fault end parts (fault.Uncovered place day) = fault.Uncovered (written_place place end parts) day
+placed_fault end parts (fault.Unknown place) = fault.Unknown (written_place place end parts)
 
 -- the first holiday
 abbrev pub placed_holiday : ℕ → List Part → Option ℕ → Option ℕ
 placed_holiday end parts (Some place) = Some (written_place place end parts)
 placed_holiday end parts None = None
 
+-- other places
+abbrev pub placed_places : ℕ → List Part → List ℕ → List ℕ
+placed_places end parts [] = []
+placed_places end parts (place ∷ places) = written_place place end parts ∷ placed_places end parts places
+
+-- The hours of a text are those of its strict form, and all places are where that is written in its so many bytes.
+pub record IsPlaced (end : ℕ) (form : StrictForm) (own read : KnownHours) : Type 0 where
+  pub hours : read.hours ≡ own.hours
+  pub by_form : read.form ≡ Some form
+  pub first : read.first_holiday ≡ placed_holiday end form.parts.items own.first_holiday
+  pub remarks : read.remarks.items ≡ placed_places end form.parts.items own.remarks.items
+  pub unknowns : read.unknowns.items ≡ placed_places end form.parts.items own.unknowns.items
+
 -- ---- loosely written texts
 
 -- The hours of a text that may be written loosely: those that it stands for as plain hours; else those of its strict form, which
--- may have holidays.
+-- may have more.
 pub data IsKnownLooseReading (names : DayNames) (known : Known) (text : List ℕ) (read : KnownHours) : Type 0 where
-  strict : read.form ≡ None → StandsFor text read.hours → read.first_holiday ≡ None → IsKnownLooseReading names known text read
-  mended : (form : StrictForm) → (first : Option ℕ) → (IsStrict text → ⊥) → read.form ≡ Some form
-      → IsStrictForm names text form → KnownStandsFor known form.text.items read.hours first
-      → read.first_holiday ≡ placed_holiday (length text) form.parts.items first → IsKnownLooseReading names known text read
+  strict : read.form ≡ None → StandsFor text read.hours → HasMarks [] read → IsKnownLooseReading names known text read
+  mended : (form : StrictForm) → (own : KnownHours) → (IsStrict text → ⊥) → IsStrictForm names text form
+      → KnownStandsFor known form.text.items own → IsPlaced (length text) form own read
+      → IsKnownLooseReading names known text read
 
 -- what is wrong with a token
 abbrev pub token_fault : TokenFault → KnownFault
@@ -71,7 +86,7 @@ IsKnownLooseStop names known text reading.NoMemory = Unit {0}
 
 -- the hours of a text in a manner of reading
 abbrev pub IsKnownReadingIn : Manner → Known → List ℕ → KnownHours → Type 0
-IsKnownReadingIn manner.Strict known text read = KnownStandsFor known text read.hours read.first_holiday × (read.form ≡ None)
+IsKnownReadingIn manner.Strict known text read = KnownStandsFor known text read × (read.form ≡ None)
 IsKnownReadingIn (manner.Loose names) known text read = IsKnownLooseReading names known text read
 
 -- and why they are not read

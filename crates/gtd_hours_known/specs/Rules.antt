@@ -1,7 +1,10 @@
--- The rules of hours that the rules of a text with holidays stand for.
-use Rattle.std.specs.Prelude.{◌≡◌, ◌⊎◌, ℕ, Bool, List, [], ◌∷◌, ◌++◌, Option, Some, None, get_or, ℤ}
+-- The rules of hours that the rules of a text stand for.
+use Rattle.std.specs.Prelude.{◌≡◌, ◌⊎◌, ℕ, Bool, true, false, ◌&&◌, ◌||◌, not, List, [], ◌∷◌, ◌++◌, Option, Some, None}
+use Rattle.std.specs.Prelude.{get_or, is_some, ℤ}
 use Rattle.gtd_hours.specs.declared.hours.Hours.{Hours}
 use Rattle.gtd_hours.specs.declared.hours.Link.{Link}
+use Rattle.gtd_hours.specs.declared.hours.Modifier.{Modifier}
+use Rattle.gtd_hours.specs.declared.hours.Modifier.TheVariants as modifier
 use Rattle.gtd_hours.specs.declared.hours.Rule.{Rule}
 use Rattle.gtd_hours.specs.declared.hours.Selector.{Selector}
 use Rattle.gtd_hours_grammar.specs.Faults.{IsFirstFault}
@@ -17,6 +20,7 @@ use Rattle.gtd_hours_holiday_rules.specs.declared.rules.HolidayRule.{HolidayRule
 use Rattle.gtd_hours_loose.specs.Reading.{IsStrict}
 use Rattle.gtd_hours_known.specs.HolidayDays.{AreDaysOf}
 use Rattle.gtd_hours_known.specs.Joining.{IsWithDays}
+use Rattle.gtd_hours_known.specs.declared.known.Known.{Known}
 use Rattle.gtd_hours_known.specs.declared.rules.RulesStop.{RulesStop}
 use Rattle.gtd_hours_known.specs.declared.rules.RulesStop.TheVariants as stop
 
@@ -49,6 +53,52 @@ abbrev pub IsRuleFault : List HolidayRule → HoursFault → Type 0
 IsRuleFault [] bad = ⊥
 IsRuleFault (rule ∷ rules) bad = IsFirstFault rule.text.items bad ⊎ (IsStrict rule.text.items × IsRuleFault rules bad)
 
+-- ---- whether rules are open
+
+abbrev pub is_open : Modifier → Bool
+is_open modifier.Open = true
+is_open modifier.Closed = false
+
+-- one of the rules is open
+abbrev pub opens : List Rule → Bool
+opens [] = false
+opens (r ∷ rs) = is_open r.modifier || opens rs
+
+-- Whether the rules that a rule's own text stands for are open.
+pub record Opens (rule : HolidayRule) (is : Bool) : Type 0 where
+  pub plain : Hours
+  pub stands : StandsFor rule.text.items plain
+  pub same : is ≡ opens plain.rules.items
+
+-- and so for each rule
+abbrev pub AreOpen : List HolidayRule → List Bool → Type 0
+AreOpen [] [] = Unit {0}
+AreOpen (rule ∷ rules) (is ∷ opened) = Opens rule is × AreOpen rules opened
+AreOpen rules opened = ⊥
+
+-- A rule that is unknown says nothing of what is open. Nor does a fallback rule that is closed, as no other one opens behind it.
+abbrev pub says_nothing : HolidayRule → Bool → Bool
+says_nothing rule opened = is_some rule.unknown || (is_some rule.fallback && not opened)
+
+-- ---- the table and the years
+
+pub record IsGiven (known : Known) (table : Holidays) (years : KnownYears) : Type 0 where
+  pub has_table : known.holidays ≡ Some table
+  pub has_years : known.years ≡ Some years
+
+-- The days of holidays: those that the table has for them in the years. Without holidays there are none.
+abbrev pub AreGivenDays : Known → List Listed → List Selector → Type 0
+AreGivenDays known [] days = days ≡ []
+AreGivenDays known (h ∷ holidays) days =
+    (table : Holidays) × (years : KnownYears) × IsGiven known table years × AreDaysOf table years (h ∷ holidays) days
+
+-- The table says all that the holidays need in the years.
+abbrev pub AreAllSaid : Known → List Listed → Type 0
+AreAllSaid known [] = Unit {0}
+AreAllSaid known (h ∷ holidays) =
+    (table : Holidays) × (years : KnownYears) × IsGiven known table years
+    × CoversAll table.rows.items years (h ∷ holidays)
+
 -- ---- rules with holidays
 
 -- A rule with another link and, if there are holidays, with their days.
@@ -66,21 +116,25 @@ AreWithHolidays from days [] [] = Unit {0}
 AreWithHolidays from days (p ∷ plain) (m ∷ made) = HasHolidays from days p m × AreWithHolidays from days plain made
 AreWithHolidays from days plain made = ⊥
 
--- What a rule of the text stands for: the rule of its own text (there is one) with its link and, on the days that the table has
--- for them in the years, its holidays.
-pub record IsHolidayRule (table : Holidays) (years : KnownYears) (from : HolidayRule) (made : List Rule) : Type 0 where
+-- none of them if the rule says nothing
+abbrev pub AreSpoken : Bool → HolidayRule → List Selector → List Rule → List Rule → Type 0
+AreSpoken true from days plain made = made ≡ []
+AreSpoken false from days plain made = AreWithHolidays from days plain made
+
+-- What a rule of the text stands for, if it says something: the rule of its own text (there is one) with its link and, on the
+-- days that the table has for them in the years, its holidays.
+pub record IsHolidayRule (known : Known) (from : HolidayRule) (made : List Rule) : Type 0 where
   pub plain : Hours
   pub days : List Selector
   pub stands : StandsFor from.text.items plain
-  pub listed : AreDaysOf table years from.holidays.items days
-  pub are : AreWithHolidays from days plain.rules.items made
+  pub listed : AreGivenDays known from.holidays.items days
+  pub are : AreSpoken (says_nothing from (opens plain.rules.items)) from days plain.rules.items made
 
 -- what the rules stand for, one after another
-abbrev pub AreHolidayRules : Holidays → KnownYears → List HolidayRule → List Rule → Type 0
-AreHolidayRules table years [] made = made ≡ []
-AreHolidayRules table years (from ∷ more) made =
-    (own others : List Rule) × IsHolidayRule table years from own × AreHolidayRules table years more others
-    × (made ≡ own ++ others)
+abbrev pub AreHolidayRules : Known → List HolidayRule → List Rule → Type 0
+AreHolidayRules known [] made = made ≡ []
+AreHolidayRules known (from ∷ more) made =
+    (own others : List Rule) × IsHolidayRule known from own × AreHolidayRules known more others × (made ≡ own ++ others)
 
 -- ---- what the table does not say
 
@@ -89,12 +143,16 @@ abbrev pub IsUncoveredIn : Holidays → KnownYears → HolidayRule → ℕ → �
 IsUncoveredIn table years from place day =
     (k : ℕ) × IsUncovered table.rows.items years from.holidays.items k day × (place ≡ get_or from.places.items k 0)
 
+abbrev pub IsUncoveredBy : Known → HolidayRule → ℕ → ℤ → Type 0
+IsUncoveredBy known from place day =
+    (table : Holidays) × (years : KnownYears) × IsGiven known table years × IsUncoveredIn table years from place day
+
 -- the first of the holidays of some rules
-abbrev pub IsHolidayUncovered : Holidays → KnownYears → List HolidayRule → ℕ → ℤ → Type 0
-IsHolidayUncovered table years [] place day = ⊥
-IsHolidayUncovered table years (from ∷ more) place day =
-    IsUncoveredIn table years from place day
-    ⊎ (CoversAll table.rows.items years from.holidays.items × IsHolidayUncovered table years more place day)
+abbrev pub IsHolidayUncovered : Known → List HolidayRule → ℕ → ℤ → Type 0
+IsHolidayUncovered known [] place day = ⊥
+IsHolidayUncovered known (from ∷ more) place day =
+    IsUncoveredBy known from place day
+    ⊎ (AreAllSaid known from.holidays.items × IsHolidayUncovered known more place day)
 
 -- ---- as the code computes it
 
@@ -104,11 +162,15 @@ IsStopAt (listed_fault.Uncovered found) places why = why ≡ stop.Uncovered (get
 IsStopAt (listed_fault.TooMany needed) places why = ⊥
 IsStopAt listed_fault.NoMemory places why = why ≡ stop.NoMemory
 
--- why a rule of the text has no rule of hours; and why rules have none
-abbrev pub IsRuleStop : Holidays → KnownYears → HolidayRule → RulesStop → Type 0
-IsRuleStop table years from (stop.Uncovered place day) = IsUncoveredIn table years from place day
-IsRuleStop table years from stop.NoMemory = Unit {0}
+-- why the holidays of a rule have no days; why the rule has no rule of hours; and why rules have none
+abbrev pub IsDaysStop : Holidays → KnownYears → HolidayRule → RulesStop → Type 0
+IsDaysStop table years from (stop.Uncovered place day) = IsUncoveredIn table years from place day
+IsDaysStop table years from stop.NoMemory = Unit {0}
 
-abbrev pub IsRulesStop : Holidays → KnownYears → List HolidayRule → RulesStop → Type 0
-IsRulesStop table years rules (stop.Uncovered place day) = IsHolidayUncovered table years rules place day
-IsRulesStop table years rules stop.NoMemory = Unit {0}
+abbrev pub IsRuleStop : Known → HolidayRule → RulesStop → Type 0
+IsRuleStop known from (stop.Uncovered place day) = IsUncoveredBy known from place day
+IsRuleStop known from stop.NoMemory = Unit {0}
+
+abbrev pub IsRulesStop : Known → List HolidayRule → RulesStop → Type 0
+IsRulesStop known rules (stop.Uncovered place day) = IsHolidayUncovered known rules place day
+IsRulesStop known rules stop.NoMemory = Unit {0}

@@ -1,9 +1,8 @@
 //! Days from one to another, as a selector of dates.
 
-ghost use Rattle.std.specs.Prelude.{◌≡◌, ◌↔◌, ◌+ℤ◌, ◌≤ℤ◌, ◌<ℤ◌, ℤ, pos};
-ghost use Rattle.gtd_calendar.specs.Calendar.{IsCalendarDay, IsCalendarYear, day_number};
-ghost use Rattle.gtd_calendar.specs.declared.day.DayFields.{DayFields};
-ghost use Rattle.gtd_hours.specs.Opening.{HoldsOn};
+ghost use Rattle.std.specs.Prelude.{◌≡◌, ◌+ℤ◌, ◌≤ℤ◌, ◌<ℤ◌, pos};
+ghost use Rattle.gtd_calendar.specs.Calendar.{IsCalendarDay, IsCalendarYear};
+ghost use Rattle.gtd_hours_known.specs.HolidayDays.{IsRange, date_day};
 
 use gtd_calendar::fields;
 use gtd_hours::{Dated, Selector, YearDate};
@@ -19,7 +18,7 @@ fn small_year(year: i64) -> u16
 // The date of a day.
 fn date_of(day: i64) -> YearDate
     requires { IsCalendarDay day }
-    ensures { day_number (pos result.year) result.month result.day ≡ day }
+    ensures { date_day result ≡ day }
 {
     let date = fields(day);
     match YearDate::new(small_year(date.year), date.month, date.day) {
@@ -34,7 +33,7 @@ pub(crate) fn days_between(first: i64, last: i64) -> Selector
     requires last_in { IsCalendarDay last }
     requires order { first ≤ℤ last }
     requires short { last <ℤ (first +ℤ pos 36600) }
-    ensures { (n : ℤ) (f : DayFields) → HoldsOn result n f ↔ ((first ≤ℤ n) × (n ≤ℤ last)) }
+    ensures { IsRange first last result }
 {
     match Dated::new(date_of(first), date_of(last)) {
         Some(dates) => Selector::Dated(dates),

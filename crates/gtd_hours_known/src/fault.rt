@@ -39,6 +39,12 @@ pub enum KnownFault {
         /// The first day on which it does not, counted from 1970-01-01.
         day: i64,
     },
+    /// It is not known whether a rule is open, and it is no fallback rule or another one comes after it.
+    #[error("Unknown at {place}")]
+    Unknown {
+        /// The number of bytes before the word or the comment that makes it unknown.
+        place: usize,
+    },
 }
 
 /// Why the hours of a text cannot be read.

@@ -2,14 +2,13 @@
 
 ghost use Rattle.std.specs.Prelude.{◌≡◌, drop};
 ghost use Rattle.gtd_hours_days.specs.Listed.{kind_of};
-ghost use Rattle.gtd_hours_known.specs.Given.{covers, covers_some, has_table, is_kind, missing, no_years, none_given};
+ghost use Rattle.gtd_hours_known.specs.Given.{covers, covers_some, has_table, is_kind, no_years, none_given};
 ghost use Rattle.gtd_hours_known.specs.Given.{not_given};
 ghost use Rattle.gtd_hours_known.specs.Rules.{first_place};
 
 use crate::fault::KnownFault;
 use crate::known::Known;
 use gtd_hours_days::Listed;
-use gtd_hours_holiday_rules::HolidayRule;
 use gtd_hours_holidays::{HolidayKind, HolidayRow, Holidays, KnownYears};
 
 /// The first of some places.
@@ -104,8 +103,9 @@ fn not_given(known: &Known, holiday: Listed, place: usize) -> Option<KnownFault>
     }
 }
 
-// What is not given for the first of some holidays at these places for which something is not.
-fn none_given(known: &Known, holidays: &[Listed], places: &[usize]) -> Option<KnownFault>
+/// What is not given for the first of some holidays at these places for which something is not: a table of such holidays, or
+/// else the years.
+pub(crate) fn none_given(known: &Known, holidays: &[Listed], places: &[usize]) -> Option<KnownFault>
     ensures { result ≡ none_given known.now holidays.now places.now }
 {
     let mut rest = holidays;
@@ -116,21 +116,6 @@ fn none_given(known: &Known, holidays: &[Listed], places: &[usize]) -> Option<Kn
         }
         rest = more;
         at = later_places(at);
-    }
-    None
-}
-
-/// What is not given for the first holiday of some rules for which something is not: a table of such holidays, or else the
-/// years.
-pub(crate) fn missing(known: &Known, rules: &[HolidayRule]) -> Option<KnownFault>
-    ensures { result ≡ missing known.now rules.now }
-{
-    let mut rest = rules;
-    while let Some((rule, more)) = rest.split_first() {
-        if let Some(bad) = none_given(known, rule.holidays.as_slice(), rule.places.as_slice()) {
-            return Some(bad);
-        }
-        rest = more;
     }
     None
 }

@@ -22,4 +22,8 @@ pub struct KnownHours {
     pub form: Option<StrictForm>,
     /// The number of bytes before the first holiday, if the text has one.
     pub first_holiday: Option<usize>,
+    /// The number of bytes before each comment on an open rule without a word that says that it is open.
+    pub remarks: Vec<usize>,
+    /// The number of bytes before each word or comment that makes a fallback rule unknown.
+    pub unknowns: Vec<usize>,
 }

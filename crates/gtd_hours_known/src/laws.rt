@@ -3,8 +3,9 @@
 ghost use Rattle.std.specs.Prelude.{◌≡◌, ◌↔◌, ◌⊎◌, ◌∷◌, ◌++◌, [], Bool, true, false, List, None, ℕ, ℤ};
 ghost use Rattle.gtd_calendar.specs.Calendar.{AreFieldsOf};
 ghost use Rattle.gtd_calendar.specs.declared.day.DayFields.{DayFields};
-ghost use Rattle.gtd_hours.specs.Opening.{EachHolds, Matches, SomeHolds};
+ghost use Rattle.gtd_hours.specs.Opening.{EachHolds, IsOpen, Matches, SomeHolds};
 ghost use Rattle.gtd_hours.specs.Writable.{selectors};
+ghost use Rattle.gtd_hours.specs.declared.hours.Hours.{Hours};
 ghost use Rattle.gtd_hours.specs.declared.hours.Kind.{Kind};
 ghost use Rattle.gtd_hours.specs.declared.hours.Link.{Link};
 ghost use Rattle.gtd_hours.specs.declared.hours.Rule.{Rule};
@@ -13,14 +14,22 @@ ghost use Rattle.gtd_hours_days.specs.Listed.{SomeListed};
 ghost use Rattle.gtd_hours_days.specs.declared.listed.Listed.{Listed};
 ghost use Rattle.gtd_hours_holidays.specs.declared.holidays.Holidays.{Holidays};
 ghost use Rattle.gtd_hours_holidays.specs.declared.known_years.KnownYears.{KnownYears};
+ghost use Rattle.gtd_hours_holiday_rules.specs.Reading.{IsHolidayText};
+ghost use Rattle.gtd_hours_holiday_rules.specs.declared.text.HolidayText.{HolidayText};
 ghost use Rattle.gtd_hours_loose.specs.Manners.{IsReadingIn};
+ghost use Rattle.gtd_hours_loose.specs.Reading.{IsStrict};
 ghost use Rattle.gtd_hours_loose.specs.declared.manner.Manner.{Manner};
 ghost use Rattle.gtd_hours_loose.specs.declared.reader.LooseHours.{LooseHours};
 ghost use Rattle.gtd_hours_known.specs.HolidayDays.{AreDaysOf};
 ghost use Rattle.gtd_hours_known.specs.Joining.{IsWithDays, has_weekdays, names_weekdays};
 ghost use Rattle.gtd_hours_known.specs.Manners.{IsKnownReadingIn};
+ghost use Rattle.gtd_hours_known.specs.Marks.{HasMarks};
+ghost use Rattle.gtd_hours_known.specs.Reading.{IsKnown};
+ghost use Rattle.gtd_hours_known.specs.Said.{AreOwnRules, IsSaidOpen};
 ghost use Rattle.gtd_hours_known.specs.declared.known.Known.{Known};
 ghost use Rattle.gtd_hours_known.specs.declared.known.KnownHours.{KnownHours};
+
+use gtd_hours_holiday_rules::laws::one_holiday_text;
 
 /// A day matches a rule whose holidays lead exactly if it matches the rule without them, and one of the holidays holds on it. So
 /// it is with all holidays of a rule without weekdays. With weekdays, other holidays are days beside these: of all other kinds
@@ -41,12 +50,24 @@ pub fn days_of_holidays()
         × (SomeHolds weekdays.selectors.items n f ⊎ SomeListed table.rows.items years listed n)) }
 {}
 
-/// Hours that are read of a text without holidays are read so whatever is known of them, and no other hours are read without a
-/// first holiday.
+/// Hours that are read of a text without holidays, comments, unknown and fallback rules are read so whatever is known of
+/// holidays. Of plain hours no others are read. Hours without a first holiday are read so whatever is known.
 pub fn plain_readings()
-    ensures plain { (manner : Manner) (known : Known) (text : List ℕ) (read : LooseHours) → IsReadingIn manner text read
-        → IsKnownReadingIn manner known text (record { hours = read.hours; form = read.form; first_holiday = None }) }
-    ensures only { (manner : Manner) (known : Known) (text : List ℕ) (read : KnownHours)
-        → IsKnownReadingIn manner known text read → read.first_holiday ≡ None
-        → IsReadingIn manner text (record { hours = read.hours; form = read.form }) }
+    ensures plain { (manner : Manner) (known : Known) (text : List ℕ) (read : LooseHours) (made : KnownHours)
+        → IsReadingIn manner text read → made.hours ≡ read.hours → made.form ≡ read.form → HasMarks [] made
+        → IsKnownReadingIn manner known text made }
+    ensures only { (manner : Manner) (known : Known) (text : List ℕ) (read : KnownHours) → IsStrict text
+        → IsKnownReadingIn manner known text read → IsReadingIn manner text (record { hours = read.hours; form = read.form }) }
+    ensures needless { (manner : Manner) (known other : Known) (text : List ℕ) (read : KnownHours)
+        → IsKnownReadingIn manner known text read → read.first_holiday ≡ None → IsKnownReadingIn manner other text read }
 {}
+
+/// Hours that are read of a text with holidays, comments, unknown and fallback rules are open at a second exactly if its rules
+/// say so, with the holidays of the table in the years: for every second over all time, and whichever own rules its rules have.
+pub fn said_by_rules()
+    ensures seconds { (known : Known) (text : List ℕ) (found : HolidayText) (hours : Hours) (own : List Rule)
+        → IsHolidayText text found → IsKnown known found hours → AreOwnRules found.rules.items own
+        → (second : ℤ) → IsOpen hours second ↔ IsSaidOpen known found.rules.items own second }
+{
+    one_holiday_text();
+}

@@ -1,6 +1,7 @@
-//! Opening hours of OpenStreetMap with public and school holidays, which a table has for some years.
+//! Opening hours of OpenStreetMap with public and school holidays, which a table has for some years, and with comments, unknown
+//! and fallback rules.
 //!
-//! A text is read by its rules: those of the plain hours that are left without holidays, each with its own holidays, whose days
+//! A text is read by its rules: those of the plain hours that are left without all that, each with its own holidays, whose days
 //! are listed as dates.
 #![tactic(auto)]
 
@@ -12,6 +13,9 @@ mod joining;
 mod known;
 pub mod laws;
 mod manner;
+mod marks;
+mod needs;
+mod opening;
 mod reader;
 mod rules;
 mod selectors;
@@ -19,6 +23,6 @@ mod selectors;
 pub use fault::{KnownFault, KnownReadFault};
 pub use joining::with_days;
 pub use known::{Known, KnownHours};
-pub use manner::read_known_hours_in;
+pub use manner::{placed_fault, placed_read, read_known_hours_in, token_fault};
 pub use reader::read_known_hours;
 pub use selectors::listed_selectors;

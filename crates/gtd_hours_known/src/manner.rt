@@ -1,19 +1,20 @@
-//! Reading a text with holidays strictly or loosely.
+//! Reading a text with holidays, comments, unknown and fallback rules strictly or loosely.
 
 ghost use Rattle.std.specs.Prelude.{◌≡◌, IfErr, IfOk};
 ghost use Rattle.gtd_hours_loose.specs.Reading.{IsStrict};
 ghost use Rattle.gtd_hours_known.specs.Manners.{IsKnownLooseReading, IsKnownLooseStop, IsKnownReadFaultIn};
-ghost use Rattle.gtd_hours_known.specs.Manners.{IsKnownReadingIn, IsMendedStop, no_form};
-ghost use Rattle.gtd_hours_known.specs.Manners.{placed, placed_fault, placed_holiday, token_fault};
+ghost use Rattle.gtd_hours_known.specs.Manners.{IsKnownReadingIn, IsMendedStop, IsPlaced};
+ghost use Rattle.gtd_hours_known.specs.Manners.{no_form, placed, placed_fault, placed_holiday, placed_places, token_fault};
 
 use crate::fault::{KnownFault, KnownReadFault};
 use crate::known::{Known, KnownHours};
+use crate::marks::without_marks;
 use crate::reader::read_known_hours;
 use gtd_hours_grammar::{FaultKind, HoursFault};
 use gtd_hours_loose::{Manner, Part, StrictForm, strict_form, written_place};
 use gtd_hours_loose_tokens::{DayNames, LooseStop, TokenFault};
 use gtd_hours_text::{HoursTextFault, read_hours};
-use std::alloc::Global;
+use std::alloc::{AllocError, Global};
 
 /// The hours that a text stands for in a manner of reading, with the holidays that the table has in the years.
 ///
@@ -46,11 +47,7 @@ fn read_loosely(
     ensures fault { IfErr result (IsKnownLooseStop names known.now text.now) }
 {
     match read_hours(alloc, text) {
-        Ok(hours) => Ok(KnownHours {
-            hours,
-            form: None,
-            first_holiday: None,
-        }),
+        Ok(hours) => Ok(without_marks(alloc, hours)),
         Err(why) => match why {
             HoursTextFault::NoMemory => Err(KnownReadFault::NoMemory),
             HoursTextFault::Fault(_) => read_mended(alloc, text, names, known),
@@ -73,21 +70,16 @@ fn read_mended(
         Err(stop) => Err(no_form(stop)),
         Ok(form) => match read_known_hours(alloc, form.text.as_slice(), known) {
             Err(why) => Err(placed(text.len(), form.parts.as_slice(), why)),
-            Ok(read) => Ok(KnownHours {
-                hours: read.hours,
-                first_holiday: placed_holiday(
-                    text.len(),
-                    form.parts.as_slice(),
-                    read.first_holiday,
-                ),
-                form: Some(form),
-            }),
+            Ok(read) => match placed_read(alloc, text.len(), form, read) {
+                Err(_) => Err(KnownReadFault::NoMemory),
+                Ok(read) => Ok(read),
+            },
         },
     }
 }
 
-// What is wrong with a token, as a fault of the text.
-fn token_fault(why: TokenFault) -> KnownFault
+/// What is wrong with a token, as a fault of the text. Takes no memory.
+pub fn token_fault(why: TokenFault) -> KnownFault
     ensures { result ≡ token_fault why }
 {
     match why {
@@ -109,8 +101,8 @@ fn no_form(stop: LooseStop) -> KnownReadFault
     }
 }
 
-// A fault of the strict form with these parts, at its place in the text with so many bytes.
-fn placed_fault(end: usize, parts: &[Part], bad: KnownFault) -> KnownFault
+/// A fault of the strict form with these parts, at its place in the text with so many bytes. Takes no memory.
+pub fn placed_fault(end: usize, parts: &[Part], bad: KnownFault) -> KnownFault
     ensures { result ≡ placed_fault end parts.now bad }
 {
     match bad {
@@ -130,6 +122,9 @@ fn placed_fault(end: usize, parts: &[Part], bad: KnownFault) -> KnownFault
         KnownFault::Uncovered { place, day } => KnownFault::Uncovered {
             place: written_place(place, end, parts),
             day,
+        },
+        KnownFault::Unknown { place } => KnownFault::Unknown {
+            place: written_place(place, end, parts),
         },
     }
 }
@@ -152,4 +147,45 @@ fn placed_holiday(end: usize, parts: &[Part], first: Option<usize>) -> Option<us
         None => None,
         Some(place) => Some(written_place(place, end, parts)),
     }
+}
+
+// Places of the strict form, in the text.
+fn placed_places(
+    alloc: Global,
+    end: usize,
+    parts: &[Part],
+    places: &[usize],
+) -> Result<Vec<usize>, AllocError>
+    ensures { IfOk result (λ made. made.items ≡ placed_places end parts.now places.now) }
+{
+    let mut made = Vec::new(alloc);
+    let mut rest = places;
+    while let Some((place, more)) = rest.split_first() {
+        made.push(written_place(*place, end, parts))?;
+        rest = more;
+    }
+    Ok(made)
+}
+
+/// The hours of a text with so many bytes by those of its strict form: all places are where that is written in the text.
+/// `AllocError` is answered only if memory was refused.
+pub fn placed_read(
+    alloc: Global,
+    end: usize,
+    form: StrictForm,
+    read: KnownHours,
+) -> Result<KnownHours, AllocError>
+    ensures { IfOk result (IsPlaced end form read) }
+{
+    let parts = form.parts.as_slice();
+    let first_holiday = placed_holiday(end, parts, read.first_holiday);
+    let remarks = placed_places(alloc, end, parts, read.remarks.as_slice())?;
+    let unknowns = placed_places(alloc, end, parts, read.unknowns.as_slice())?;
+    Ok(KnownHours {
+        hours: read.hours,
+        form: Some(form),
+        first_holiday,
+        remarks,
+        unknowns,
+    })
 }

@@ -1,22 +1,24 @@
-//! The rules of a text with holidays, as rules of hours.
+//! The rules of a text, as rules of hours.
 
-ghost use Rattle.std.specs.Prelude.{◌≡◌, IfErr, IfOk, List, get_or};
+ghost use Rattle.std.specs.Prelude.{◌≡◌, IfErr, IfOk, List, None, get_or};
 ghost use Rattle.gtd_hours_loose.specs.Reading.{IsStrict};
-ghost use Rattle.gtd_hours_text.specs.Standing.{StandsFor};
 ghost use Rattle.gtd_hours_days.specs.declared.listed.Listed.{Listed};
 ghost use Rattle.gtd_hours_holidays.specs.declared.holidays.Holidays.{Holidays};
 ghost use Rattle.gtd_hours_holidays.specs.declared.known_years.KnownYears.{KnownYears};
 ghost use Rattle.gtd_hours_known.specs.HolidayDays.{AreDaysOf, IsDaysFault};
-ghost use Rattle.gtd_hours_known.specs.Rules.{AreAllStrict, AreHolidayRules, AreWithHolidays, HasHolidays, IsHolidayRule};
-ghost use Rattle.gtd_hours_known.specs.Rules.{IsRuleStop, IsRulesStop, IsStopAt};
+ghost use Rattle.gtd_hours_known.specs.Given.{AreAllGiven, none_given};
+ghost use Rattle.gtd_hours_known.specs.Rules.{AreAllStrict, AreGivenDays, AreHolidayRules, AreSpoken, AreWithHolidays};
+ghost use Rattle.gtd_hours_known.specs.Rules.{HasHolidays, IsDaysStop, IsHolidayRule, IsRuleStop, IsRulesStop, IsStopAt, opens};
+ghost use Rattle.gtd_hours_known.specs.Rules.{says_nothing};
 
 use crate::joining::with_days;
+use crate::known::Known;
+use crate::opening::{opens, plain_hours};
 use crate::selectors::listed_selectors;
 use gtd_hours::{Hours, Rule, Selector};
 use gtd_hours_days::ListedFault;
 use gtd_hours_holiday_rules::HolidayRule;
 use gtd_hours_holidays::{Holidays, KnownYears};
-use gtd_hours_text::{HoursTextFault, read_hours};
 use std::alloc::{AllocError, Global};
 
 /// Why rules with holidays have no hours.
@@ -79,21 +81,6 @@ fn rules_with(
     Ok(made)
 }
 
-// The hours that the own text of a rule stands for.
-fn plain_hours(alloc: Global, text: &[u8]) -> Result<Hours, RulesStop>
-    requires { IsStrict text.now }
-    ensures hours { IfOk result (λ hours. StandsFor text.now hours) }
-    ensures stop { IfErr result (λ why. why ≡ RulesStop.NoMemory) }
-{
-    match read_hours(alloc, text) {
-        Ok(hours) => Ok(hours),
-        Err(why) => match why {
-            HoursTextFault::NoMemory => Err(RulesStop::NoMemory),
-            HoursTextFault::Fault(_) => unreachable!(),
-        },
-    }
-}
-
 // The place of a holiday of a rule.
 fn place_at(places: &[usize], at: usize) -> usize
     ensures { result ≡ get_or places.now at 0 }
@@ -119,39 +106,76 @@ fn stop_at(why: ListedFault, places: &[usize]) -> RulesStop
     }
 }
 
-// The days of the holidays of a rule.
-fn holiday_days(
+// The days of the holidays of a rule, with a table and years.
+fn days_with(
     alloc: Global,
     from: &HolidayRule,
     table: &Holidays,
     years: KnownYears,
 ) -> Result<Vec<Selector>, RulesStop>
     ensures days { IfOk result (λ days. AreDaysOf table.now years from.now.holidays.items days.items) }
-    ensures stop { IfErr result (IsRuleStop table.now years from.now) }
+    ensures stop { IfErr result (IsDaysStop table.now years from.now) }
 {
-    if from.holidays.is_empty() {
-        return Ok(Vec::new(alloc));
-    }
     match listed_selectors(alloc, table, years, from.holidays.as_slice()) {
         Ok(days) => Ok(days),
         Err(why) => Err(stop_at(why, from.places.as_slice())),
     }
 }
 
-// The rules of hours that a rule of the text stands for.
-fn rules_of(
+// The days of the holidays of a rule, for which all is given.
+fn holiday_days(
     alloc: Global,
     from: &HolidayRule,
-    table: &Holidays,
-    years: KnownYears,
-) -> Result<Vec<Rule>, RulesStop>
-    requires { IsStrict from.now.text.items }
-    ensures rules { IfOk result (λ made. IsHolidayRule table.now years from.now made.items) }
-    ensures stop { IfErr result (IsRuleStop table.now years from.now) }
+    known: &Known,
+) -> Result<Vec<Selector>, RulesStop>
+    requires { none_given known.now from.now.holidays.items from.now.places.items ≡ None }
+    ensures days { IfOk result (λ days. AreGivenDays known.now from.now.holidays.items days.items) }
+    ensures stop { IfErr result (IsRuleStop known.now from.now) }
+{
+    if from.holidays.is_empty() {
+        return Ok(Vec::new(alloc));
+    }
+    match &known.holidays {
+        None => unreachable!(),
+        Some(table) => match known.years {
+            None => unreachable!(),
+            Some(years) => days_with(alloc, from, table, years),
+        },
+    }
+}
+
+fn says_nothing(rule: &HolidayRule, opened: bool) -> bool
+    ensures { result ≡ says_nothing rule.now opened }
+{
+    rule.unknown.is_some() || (rule.fallback.is_some() && !opened)
+}
+
+// The rules with the link and the holidays of a rule of the text, if it says something.
+fn spoken(
+    alloc: Global,
+    from: &HolidayRule,
+    plain: Vec<Rule>,
+    days: &[Selector],
+) -> Result<Vec<Rule>, AllocError>
+    ensures { IfOk result
+        (λ made. AreSpoken (says_nothing from.now (opens plain.items)) from.now days.now plain.items made.items) }
+{
+    if says_nothing(from, opens(plain.as_slice())) {
+        return Ok(Vec::new(alloc));
+    }
+    rules_with(alloc, from, plain, days)
+}
+
+// The rules of hours that a rule of the text stands for.
+fn rules_of(alloc: Global, from: &HolidayRule, known: &Known) -> Result<Vec<Rule>, RulesStop>
+    requires strict { IsStrict from.now.text.items }
+    requires given { none_given known.now from.now.holidays.items from.now.places.items ≡ None }
+    ensures rules { IfOk result (λ made. IsHolidayRule known.now from.now made.items) }
+    ensures stop { IfErr result (IsRuleStop known.now from.now) }
 {
     let plain = plain_hours(alloc, from.text.as_slice())?;
-    let days = holiday_days(alloc, from, table, years)?;
-    let made = rules_with(alloc, from, plain.rules, days.as_slice())?;
+    let days = holiday_days(alloc, from, known)?;
+    let made = spoken(alloc, from, plain.rules, days.as_slice())?;
     Ok(made)
 }
 
@@ -159,17 +183,17 @@ fn rules_of(
 pub(crate) fn hours_of_rules(
     alloc: Global,
     rules: &[HolidayRule],
-    table: &Holidays,
-    years: KnownYears,
+    known: &Known,
 ) -> Result<Hours, RulesStop>
-    requires { AreAllStrict rules.now }
-    ensures rules { IfOk result (λ hours. AreHolidayRules table.now years rules.now hours.rules.items) }
-    ensures stop { IfErr result (IsRulesStop table.now years rules.now) }
+    requires strict { AreAllStrict rules.now }
+    requires given { AreAllGiven known.now rules.now }
+    ensures rules { IfOk result (λ hours. AreHolidayRules known.now rules.now hours.rules.items) }
+    ensures stop { IfErr result (IsRulesStop known.now rules.now) }
 {
     let mut made = Vec::new(alloc);
     let mut rest = rules;
     while let Some((rule, more)) = rest.split_first() {
-        let mut own = rules_of(alloc, rule, table, years)?;
+        let mut own = rules_of(alloc, rule, known)?;
         made.append(&mut own)?;
         rest = more;
     }

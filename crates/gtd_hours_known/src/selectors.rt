@@ -1,10 +1,8 @@
 //! The days of holidays, as selectors of dates.
 
-ghost use Rattle.std.specs.Prelude.{◌≡◌, ◌↔◌, ◌∷◌, ◌++◌, [], ℤ, IfErr, IfOk};
-ghost use Rattle.gtd_calendar.specs.declared.day.DayFields.{DayFields};
-ghost use Rattle.gtd_hours.specs.Opening.{HoldsOn, SomeHolds};
-ghost use Rattle.gtd_hours_days.specs.Parts.{AreShort, IsOfRun, IsShort, SomeRun};
-ghost use Rattle.gtd_hours_known.specs.HolidayDays.{AreDaysOf, IsDaysFault};
+ghost use Rattle.std.specs.Prelude.{IfErr, IfOk};
+ghost use Rattle.gtd_hours_days.specs.Parts.{AreShort, IsShort};
+ghost use Rattle.gtd_hours_known.specs.HolidayDays.{AreDaysOf, AreRangesOf, IsDaysFault, IsRange};
 
 use crate::dates::days_between;
 use gtd_hours::Selector;
@@ -15,7 +13,7 @@ use std::alloc::{AllocError, Global};
 // A run of days, as a selector.
 fn run_selector(run: Run) -> Selector
     requires { IsShort run }
-    ensures { (n : ℤ) (f : DayFields) → HoldsOn result n f ↔ IsOfRun run n }
+    ensures { IsRange run.first run.last result }
 {
     days_between(run.first, run.last)
 }
@@ -23,7 +21,7 @@ fn run_selector(run: Run) -> Selector
 // Runs of days, as selectors.
 fn run_selectors(alloc: Global, runs: &[Run]) -> Result<Vec<Selector>, AllocError>
     requires { AreShort runs.now }
-    ensures { IfOk result (λ days. (n : ℤ) (f : DayFields) → SomeHolds days.items n f ↔ SomeRun runs.now n) }
+    ensures { IfOk result (λ days. AreRangesOf runs.now days.items) }
 {
     let mut days = Vec::new(alloc);
     let mut rest = runs;

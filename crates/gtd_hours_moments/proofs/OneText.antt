@@ -5,7 +5,7 @@ use Rattle.gtd_hours_moments.specs.declared.placed.PlacedText.{PlacedText}
 use Rattle.gtd_hours_moments.specs.declared.text.MomentText.{MomentText}
 use Rattle.gtd_hours_moments.specs.declared.times.TimeToken.{TimeToken}
 use Rattle.gtd_hours_moments.specs.Checked.{checked_puts}
-use Rattle.gtd_hours_moments.specs.Parts.{forms_of, parts_of, told_of}
+use Rattle.gtd_hours_moments.specs.Parts.{breaks_off, forms_of, parts_of, told_of}
 use Rattle.gtd_hours_moments.specs.Places.{places_from, text_of}
 use Rattle.gtd_hours_moments.specs.Plain.{plain_puts}
 use Rattle.gtd_hours_moments.specs.Reading.{IsMomentText, IsPlainText}
@@ -40,6 +40,12 @@ module _ (one_list : (text : List ℕ) (one other : List TimeToken) → AreTimeT
       p.has.forms
       ∙ ap (λ (ts : List TimeToken). forms_of (parts_of ts)) (one_list text p.tokens q.tokens p.are q.are)
       ∙ sym q.has.forms
+
+  pub one_end : (text : List ℕ) (a b : MomentText) → IsMomentText text a → IsMomentText text b → a.breaks_off ≡ b.breaks_off
+  one_end text a b p q =
+      p.has.breaks
+      ∙ ap (λ (ts : List TimeToken). breaks_off (parts_of ts)) (one_list text p.tokens q.tokens p.are q.are)
+      ∙ sym q.has.breaks
 
   pub one_plain : (clocks : Clocks) (text : List ℕ) (a b : PlacedText) → IsPlainText clocks text a → IsPlainText clocks text b
       → a.text.items ≡ b.text.items

@@ -1,5 +1,5 @@
 -- The tokens of a text from left to right, with what becomes of each.
-use Rattle.std.specs.Prelude.{ℕ, List, [], ◌∷◌, ◌++◌, Option, Some, None}
+use Rattle.std.specs.Prelude.{ℕ, Bool, true, false, List, [], ◌∷◌, ◌++◌, Option, Some, None}
 use Rattle.gtd_hours_moments.specs.declared.behind.Behind.{Behind}
 use Rattle.gtd_hours_moments.specs.declared.behind.Behind.TheVariants as behind
 use Rattle.gtd_hours_moments.specs.declared.behind.Step.{Step}
@@ -11,8 +11,20 @@ use Rattle.gtd_hours_moments.specs.declared.times.TimeToken.{TimeToken}
 use Rattle.gtd_hours_moments.specs.declared.told.Told.{Told}
 use Rattle.gtd_hours_moments.specs.Steps.{step_of}
 
+-- a form of times has begun, and is not whole
+abbrev pub goes_on : Behind → Bool
+goes_on behind.Free = false
+goes_on behind.Whole = false
+goes_on b = true
+
 abbrev pub part_of : TimeToken → Step → Part
-part_of token step = record { from = token.from; to = token.to; written = step.written; whole = step.whole }
+part_of token step = record {
+  from = token.from;
+  to = token.to;
+  written = step.written;
+  whole = step.whole;
+  goes_on = goes_on step.behind;
+}
 
 -- What becomes of these tokens, behind others.
 abbrev pub parts_from : Behind → List TimeToken → List Part
@@ -42,3 +54,12 @@ told_at place w = []
 abbrev pub told_of : List Part → List Told
 told_of [] = []
 told_of (p ∷ ps) = told_at p.from p.written ++ told_of ps
+
+-- ---- whether a form breaks off at the end
+
+abbrev pub last_goes_on : Bool → List Part → Bool
+last_goes_on b [] = b
+last_goes_on b (p ∷ ps) = last_goes_on p.goes_on ps
+
+abbrev pub breaks_off : List Part → Bool
+breaks_off parts = last_goes_on false parts

@@ -8,16 +8,17 @@ use Rattle.gtd_hours_moments.specs.declared.stop.NoMomentText.TheVariants as sto
 use Rattle.gtd_hours_moments.specs.declared.text.MomentText.{MomentText}
 use Rattle.gtd_hours_moments.specs.declared.times.TimeToken.{TimeToken}
 use Rattle.gtd_hours_moments.specs.Checked.{checked_puts}
-use Rattle.gtd_hours_moments.specs.Parts.{forms_of, parts_of, told_of}
+use Rattle.gtd_hours_moments.specs.Parts.{breaks_off, forms_of, parts_of, told_of}
 use Rattle.gtd_hours_moments.specs.Places.{Holds}
 use Rattle.gtd_hours_moments.specs.Plain.{plain_puts}
 use Rattle.gtd_hours_moments.specs.Tokens.{AreTimeTokens, IsTimeFault}
 
--- The text with these parts is so: its checked text, how faults of that are told, and its forms.
+-- The text with these parts is so: its checked text, how faults of that are told, its forms, and whether one breaks off.
 pub record HasParts (text : List ℕ) (parts : List Part) (read : MomentText) : Type 0 where
   pub checked : Holds read.checked (checked_puts text parts)
   pub told : read.told.items ≡ told_of parts
   pub forms : read.forms.items ≡ forms_of parts
+  pub breaks : read.breaks_off ≡ breaks_off parts
 
 -- The text, of its tokens, is so.
 pub record IsMomentText (text : List ℕ) (read : MomentText) : Type 0 where

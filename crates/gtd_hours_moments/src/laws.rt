@@ -28,7 +28,8 @@ pub fn one_reading()
         → IsTimeFault text place → ⊥ }
 {}
 
-/// A text has one checked text at most, and one list of forms; with some options, one plain text at most.
+/// A text has one checked text at most, and one list of forms, of which another one breaks off or none; with some options, one
+/// plain text at most.
 pub fn one_moment_text()
     ensures checked { (text : List ℕ) (one other : MomentText) → IsMomentText text one → IsMomentText text other
         → one.checked.text.items ≡ other.checked.text.items }
@@ -38,6 +39,8 @@ pub fn one_moment_text()
         → one.told.items ≡ other.told.items }
     ensures forms { (text : List ℕ) (one other : MomentText) → IsMomentText text one → IsMomentText text other
         → one.forms.items ≡ other.forms.items }
+    ensures breaks { (text : List ℕ) (one other : MomentText) → IsMomentText text one → IsMomentText text other
+        → one.breaks_off ≡ other.breaks_off }
     ensures plain { (clocks : Clocks) (text : List ℕ) (one other : PlacedText) → IsPlainText clocks text one
         → IsPlainText clocks text other → one.text.items ≡ other.text.items }
 {

@@ -1,7 +1,7 @@
 //! The tokens of a text, with what becomes of each.
 
 ghost use Rattle.std.specs.Prelude.{◌≡◌, ◌++◌, ◌∷◌, [], IfOk, OnOk};
-ghost use Rattle.gtd_hours_moments.specs.Parts.{forms_of, part_of, parts_of, told_at, told_of, whole_of};
+ghost use Rattle.gtd_hours_moments.specs.Parts.{breaks_off, forms_of, goes_on, part_of, parts_of, told_at, told_of, whole_of};
 
 use crate::behind::{Behind, Step, Written};
 use crate::moment::TimeForm;
@@ -21,6 +21,18 @@ pub struct Part {
     pub written: Written,
     /// The form that is whole with it.
     pub whole: Option<TimeForm>,
+    /// Whether a form that is not whole goes on behind it.
+    pub goes_on: bool,
+}
+
+fn goes_on(behind: Behind) -> bool
+    ensures { result ≡ goes_on behind }
+{
+    match behind {
+        Behind::Free => false,
+        Behind::Whole => false,
+        _ => true,
+    }
 }
 
 fn part_of(token: TimeToken, step: Step) -> Part
@@ -31,6 +43,7 @@ fn part_of(token: TimeToken, step: Step) -> Part
         to: token.to,
         written: step.written,
         whole: step.whole,
+        goes_on: goes_on(step.behind),
     }
 }
 
@@ -102,4 +115,17 @@ pub fn told_of(alloc: Global, parts: &[Part]) -> Result<Vec<Told>, AllocError>
         rest = later;
     }
     Ok(told)
+}
+
+/// Whether a form breaks off behind the last one.
+pub fn breaks_off(parts: &[Part]) -> bool
+    ensures { result ≡ breaks_off parts.now }
+{
+    let mut last = false;
+    let mut rest = parts;
+    while let Some((part, later)) = rest.split_first() {
+        last = part.goes_on;
+        rest = later;
+    }
+    last
 }

@@ -6,7 +6,7 @@ ghost use Rattle.gtd_hours_moments.specs.Reading.{HasParts, IsMomentText, IsNoMo
 
 use crate::checked::checked_text;
 use crate::moment::TimeForm;
-use crate::parts::{Part, forms_of, parts_of, told_of};
+use crate::parts::{Part, breaks_off, forms_of, parts_of, told_of};
 use crate::placed::PlacedText;
 use crate::stop::NoMomentText;
 use crate::times::TimeToken;
@@ -23,6 +23,8 @@ pub struct MomentText {
     pub told: Vec<Told>,
     /// Its forms of times, from left to right.
     pub forms: Vec<TimeForm>,
+    /// Whether another form breaks off at its end.
+    pub breaks_off: bool,
 }
 
 // A text with these parts.
@@ -36,6 +38,7 @@ fn with_parts(alloc: Global, text: &[u8], parts: &[Part]) -> Result<MomentText, 
         checked,
         told,
         forms,
+        breaks_off: breaks_off(parts),
     })
 }
 

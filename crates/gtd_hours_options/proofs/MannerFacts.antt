@@ -39,7 +39,7 @@ loose_fault names options text first (Ok r) f other = tt
 loose_fault names options text first (Err why) f other = loose_stop names options text first why f other
 
 pub strict_reading : (options : Options) (text : List ℕ) (read : Result KnownHours OptionsReadFault)
-    → IfOk read (λ r. StandsWith options text r.hours r.first_holiday) → IfOk read (λ r. r.form ≡ None)
+    → IfOk read (StandsWith options text) → IfOk read (λ r. r.form ≡ None)
     → IfOk read (IsReadingWithIn manner.Strict options text)
 strict_reading options text (Ok r) stands none = (stands, none)
 strict_reading options text (Err why) stands none = tt

@@ -51,8 +51,8 @@ other_fault options text first (Err why) f = other_stop options text first why f
 
 pub timed_hours : (options : Options) (text : List ℕ) (bad : KnownFault) (moments : MomentText)
     (read : Result KnownHours OptionsReadFault) → IsKnownFault options.known text bad
-    → IfOk read (λ r. IsGiven options text moments) → IfOk read (λ r. IsPlainReading options text r.hours r.first_holiday)
-    → IfOk read (λ r. StandsWith options text r.hours r.first_holiday)
+    → IfOk read (λ r. IsGiven options text moments) → IfOk read (IsPlainReading options text)
+    → IfOk read (StandsWith options text)
 timed_hours options text bad moments (Ok r) f given is = timed bad moments f given is
 timed_hours options text bad moments (Err why) f given is = tt
 

@@ -1,10 +1,10 @@
 -- A text without times has no other reading than without options for times, as it has one list of forms, and one of tokens that
 -- cannot stand where they do.
-use Rattle.std.proofs.Common.{◌≡◌, ℕ, List, Option, true, false}
+use Rattle.std.proofs.Common.{◌≡◌, ℕ, Bool, List, true, false}
 use Rattle.std.specs.Prelude.{◌||◌, is_some}
-use Rattle.gtd_hours.specs.declared.hours.Hours.{Hours}
 use Rattle.gtd_hours_known.specs.Reading.{IsKnownFault, KnownStandsFor}
 use Rattle.gtd_hours_known.specs.declared.fault.KnownFault.{KnownFault}
+use Rattle.gtd_hours_known.specs.declared.known.KnownHours.{KnownHours}
 use Rattle.gtd_hours_moments.specs.Reading.{IsMomentText}
 use Rattle.gtd_hours_moments.specs.Tokens.{AreTimeTokens, IsTimeFault}
 use Rattle.gtd_hours_moments.specs.declared.moment.TimeForm.{TimeForm}
@@ -19,27 +19,30 @@ use Rattle.gtd_hours_options.specs.declared.fault.OptionsFault.{OptionsFault}
 use Rattle.gtd_hours_options.specs.declared.fault.OptionsFault.TheVariants as wrong
 use Rattle.gtd_hours_options.specs.declared.options.Options.{Options}
 
-no_times : (a b : List TimeForm) (m n : List Told) → a ≡ b → m ≡ n → has_forms a || is_some (first_misfit m) ≡ true
-    → has_forms b || is_some (first_misfit n) ≡ false → ⊥
-no_times a b m n same alike some nothing = cc
+no_times : (a b : List TimeForm) (m n : List Told) (o p : Bool) → a ≡ b → m ≡ n → o ≡ p
+    → has_forms a || (is_some (first_misfit m) || o) ≡ true → has_forms b || (is_some (first_misfit n) || p) ≡ false → ⊥
+no_times a b m n o p same alike ends some nothing = cc
 
 module _ (one_forms : (text : List ℕ) (one other : MomentText) → IsMomentText text one → IsMomentText text other
     → one.forms.items ≡ other.forms.items)
     (one_told : (text : List ℕ) (one other : MomentText) → IsMomentText text one → IsMomentText text other
     → one.told.items ≡ other.told.items)
+    (one_end : (text : List ℕ) (one other : MomentText) → IsMomentText text one → IsMomentText text other
+    → one.breaks_off ≡ other.breaks_off)
     (apart : (text : List ℕ) (tokens : List TimeToken) (place : ℕ) → AreTimeTokens text tokens → IsTimeFault text place → ⊥)
   where
     not_timed : (text : List ℕ) (moments other : MomentText) → IsMomentText text moments
         → has_times moments ≡ false → HasTimes text other → ⊥
     not_timed text moments other is none has =
-        no_times other.forms.items moments.forms.items other.told.items moments.told.items
-        (one_forms text other moments has.is is) (one_told text other moments has.is is) has.times none
+        no_times other.forms.items moments.forms.items other.told.items moments.told.items other.breaks_off moments.breaks_off
+        (one_forms text other moments has.is is) (one_told text other moments has.is is) (one_end text other moments has.is is)
+        has.times none
 
-    pub only_known : (options : Options) (text : List ℕ) (moments : MomentText) (hours : Hours) (first : Option ℕ)
-        → IsMomentText text moments → has_times moments ≡ false → StandsWith options text hours first
-        → KnownStandsFor options.known text hours first
-    only_known options text moments hours first is none (known stands) = stands
-    only_known options text moments hours first is none (timed bad other f given read) =
+    pub only_known : (options : Options) (text : List ℕ) (moments : MomentText) (read : KnownHours)
+        → IsMomentText text moments → has_times moments ≡ false → StandsWith options text read
+        → KnownStandsFor options.known text read
+    only_known options text moments read is none (known stands) = stands
+    only_known options text moments read is none (timed bad other f given reading) =
         absurd (not_timed text moments other is none given.has)
 
     not_within : (options : Options) (text : List ℕ) (moments : MomentText) (bad : OptionsFault) → IsMomentText text moments

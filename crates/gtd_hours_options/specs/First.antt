@@ -18,9 +18,10 @@ abbrev pub has_forms : List TimeForm → Bool
 has_forms [] = false
 has_forms (form ∷ forms) = true
 
--- there are times, or tokens that cannot stand where they do, as those with which a time breaks off
+-- there are times, of which the last one may break off, or tokens that cannot stand where they do
 abbrev pub has_times : MomentText → Bool
-has_times moments = has_forms moments.forms.items || is_some (first_misfit moments.told.items)
+has_times moments =
+    has_forms moments.forms.items || (is_some (first_misfit moments.told.items) || moments.breaks_off)
 
 -- the first thing that times need, or else the first that lasts too long
 abbrev pub needed : List TimeForm → Clocks → Option Need
@@ -43,6 +44,7 @@ first_of forms clocks (fault.Hours bad) = wrong.Known (fault.Hours bad)
 first_of forms clocks (fault.Ambiguous place) = wrong.Known (fault.Ambiguous place)
 first_of forms clocks (fault.Holidays place) = earlier (first_need forms clocks) place (fault.Holidays place)
 first_of forms clocks (fault.Years place) = earlier (first_need forms clocks) place (fault.Years place)
+first_of forms clocks (fault.Unknown place) = earlier (first_need forms clocks) place (fault.Unknown place)
 first_of forms clocks (fault.Uncovered place day) = or_known (needed forms clocks) (fault.Uncovered place day)
 
 -- the first fault of a text with so many bytes, whose checked text has this one

@@ -1,5 +1,5 @@
 -- The hours of a text with options where it is read strictly or loosely.
-use Rattle.std.specs.Prelude.{◌≡◌, ℕ, List, length, Option, Some, None}
+use Rattle.std.specs.Prelude.{◌≡◌, ℕ, List, length, None}
 use Rattle.gtd_hours_loose.specs.Mending.{written_place}
 use Rattle.gtd_hours_loose.specs.StrictForms.{IsLooseFault, IsStrictForm}
 use Rattle.gtd_hours_loose.specs.declared.manner.Manner.{Manner}
@@ -10,7 +10,7 @@ use Rattle.gtd_hours_loose_tokens.specs.declared.stop.LooseStop.{LooseStop}
 use Rattle.gtd_hours_loose_tokens.specs.declared.stop.LooseStop.TheVariants as stop
 use Rattle.gtd_hours_loose_tokens.specs.declared.token.DayNames.{DayNames}
 use Rattle.gtd_hours_loose_tokens.specs.declared.token.TokenFault.{TokenFault}
-use Rattle.gtd_hours_known.specs.Manners.{placed_holiday, token_fault}
+use Rattle.gtd_hours_known.specs.Manners.{IsPlaced, token_fault}
 use Rattle.gtd_hours_known.specs.Manners as known
 use Rattle.gtd_hours_known.specs.declared.known.KnownHours.{KnownHours}
 use Rattle.gtd_hours_options.specs.Reading.{IsOptionsFault, IsOptionsStop, StandsWith}
@@ -31,10 +31,10 @@ placed_fault end parts (wrong.Time need) =
 -- The hours of a text that may be written loosely: those that it stands for as it is written; else, as it has a fault, those of
 -- its strict form.
 pub data IsLooseReading (names : DayNames) (options : Options) (text : List ℕ) (read : KnownHours) : Type 0 where
-  written : read.form ≡ None → StandsWith options text read.hours read.first_holiday → IsLooseReading names options text read
-  mended : (bad : OptionsFault) → (form : StrictForm) → (first : Option ℕ) → IsOptionsFault options text bad
-      → read.form ≡ Some form → IsStrictForm names text form → StandsWith options form.text.items read.hours first
-      → read.first_holiday ≡ placed_holiday (length text) form.parts.items first → IsLooseReading names options text read
+  written : read.form ≡ None → StandsWith options text read → IsLooseReading names options text read
+  mended : (bad : OptionsFault) → (form : StrictForm) → (own : KnownHours) → IsOptionsFault options text bad
+      → IsStrictForm names text form → StandsWith options form.text.items own → IsPlaced (length text) form own read
+      → IsLooseReading names options text read
 
 -- The first fault of a text that is not read as it is written: of its tokens, or else of its strict form.
 pub data IsMendedFault (names : DayNames) (options : Options) (text : List ℕ) (bad : OptionsFault) : Type 0 where
@@ -59,7 +59,7 @@ IsLooseStop names options text reading.NoMemory = Unit {0}
 -- the hours of a text in a manner of reading
 abbrev pub IsReadingWithIn : Manner → Options → List ℕ → KnownHours → Type 0
 IsReadingWithIn manner.Strict options text read =
-    StandsWith options text read.hours read.first_holiday × (read.form ≡ None)
+    StandsWith options text read × (read.form ≡ None)
 IsReadingWithIn (manner.Loose names) options text read = IsLooseReading names options text read
 
 -- and why they are not read

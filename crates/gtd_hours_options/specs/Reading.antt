@@ -1,6 +1,5 @@
 -- The hours of a text with options, as it is written, and its first fault.
-use Rattle.std.specs.Prelude.{◌≡◌, ℕ, true, false, List, length, Option, Some, None}
-use Rattle.gtd_hours.specs.declared.hours.Hours.{Hours}
+use Rattle.std.specs.Prelude.{◌≡◌, ℕ, true, false, List, length, Some, None}
 use Rattle.gtd_hours_moments.specs.Reading.{IsMomentText, IsPlainText}
 use Rattle.gtd_hours_moments.specs.Tokens.{IsTimeFault}
 use Rattle.gtd_hours_moments.specs.declared.clocks.Clocks.{Clocks}
@@ -12,8 +11,9 @@ use Rattle.gtd_hours_known.specs.declared.fault.KnownFault.{KnownFault}
 use Rattle.gtd_hours_known.specs.declared.fault.KnownReadFault.{KnownReadFault}
 use Rattle.gtd_hours_known.specs.declared.fault.KnownReadFault.TheVariants as known_reading
 use Rattle.gtd_hours_known.specs.declared.known.Known.{Known}
+use Rattle.gtd_hours_known.specs.declared.known.KnownHours.{KnownHours}
 use Rattle.gtd_hours_options.specs.First.{checked_fault, has_times, time_fault}
-use Rattle.gtd_hours_options.specs.Told.{bad_token, placed_fault, placed_holiday}
+use Rattle.gtd_hours_options.specs.Told.{IsPlacedReading, bad_token, placed_fault}
 use Rattle.gtd_hours_options.specs.declared.fault.OptionsFault.{OptionsFault}
 use Rattle.gtd_hours_options.specs.declared.fault.OptionsFault.TheVariants as wrong
 use Rattle.gtd_hours_options.specs.declared.fault.OptionsReadFault.{OptionsReadFault}
@@ -29,7 +29,7 @@ pub record HasTimes (text : List ℕ) (moments : MomentText) : Type 0 where
 
 -- The text stands for some hours with what is known of holidays.
 abbrev pub IsRead : Known → List ℕ → Type 0
-IsRead known text = (hours : Hours) × (first : Option ℕ) × KnownStandsFor known text hours first
+IsRead known text = (read : KnownHours) × KnownStandsFor known text read
 
 -- Its checked text does, each token can stand where it does, and all is given that its times need.
 pub record IsGiven (options : Options) (text : List ℕ) (moments : MomentText) : Type 0 where
@@ -37,13 +37,13 @@ pub record IsGiven (options : Options) (text : List ℕ) (moments : MomentText) 
   pub checked : IsRead options.known moments.checked.text.items
   pub given : time_fault moments options.clocks ≡ None
 
--- The hours are those of its plain text, and its first holiday stands where that of the plain text is written.
-pub record IsPlainReading (options : Options) (text : List ℕ) (hours : Hours) (first : Option ℕ) : Type 0 where
+-- The hours are those of its plain text, at the places for which that stands.
+pub record IsPlainReading (options : Options) (text : List ℕ) (read : KnownHours) : Type 0 where
   pub plain : PlacedText
-  pub holiday : Option ℕ
+  pub own : KnownHours
   pub is : IsPlainText options.clocks text plain
-  pub stands : KnownStandsFor options.known plain.text.items hours holiday
-  pub placed : first ≡ placed_holiday (length text) plain.places.items holiday
+  pub stands : KnownStandsFor options.known plain.text.items own
+  pub placed : IsPlacedReading (length text) plain.places.items own read
 
 -- The first fault of a text with times, in this order: a byte with which no token begins; the first fault of its checked text,
 -- or else of its tokens, and what is needed or too long, as `checked_fault` and `time_fault` order them; the first fault of its
@@ -61,12 +61,12 @@ pub data IsTimesFault (options : Options) (text : List ℕ) (bad : OptionsFault)
 
 -- ---- any text
 
--- The hours of a text, and where its first holiday stands. They are read without options for times if that reads them, and then
--- no times need anything. Else the text must have times and no fault.
-pub data StandsWith (options : Options) (text : List ℕ) (hours : Hours) (first : Option ℕ) : Type 0 where
-  known : KnownStandsFor options.known text hours first → StandsWith options text hours first
+-- The hours of a text, and of what is warned in it. They are read without options for times if that reads them, and then no
+-- times need anything. Else the text must have times and no fault.
+pub data StandsWith (options : Options) (text : List ℕ) (read : KnownHours) : Type 0 where
+  known : KnownStandsFor options.known text read → StandsWith options text read
   timed : (bad : KnownFault) → (moments : MomentText) → IsKnownFault options.known text bad → IsGiven options text moments
-      → IsPlainReading options text hours first → StandsWith options text hours first
+      → IsPlainReading options text read → StandsWith options text read
 
 -- The first fault of a text that has this one where it is read without options for times: the same if it has no times.
 pub data IsOtherFault (options : Options) (text : List ℕ) (first : KnownFault) (bad : OptionsFault) : Type 0 where

@@ -20,11 +20,13 @@ fn has_forms(forms: &[TimeForm]) -> bool
     }
 }
 
-/// Whether there are times, or tokens that cannot stand where they do, as those with which a time breaks off.
+/// Whether there are times, of which the last one may break off, or tokens that cannot stand where they do.
 pub(crate) fn has_times(moments: &MomentText) -> bool
     ensures { result ≡ has_times moments.now }
 {
-    has_forms(moments.forms.as_slice()) || first_misfit(moments.told.as_slice()).is_some()
+    has_forms(moments.forms.as_slice())
+        || first_misfit(moments.told.as_slice()).is_some()
+        || moments.breaks_off
 }
 
 // The first thing that times need, or else the first that lasts too long.
@@ -72,6 +74,7 @@ fn first_of(forms: &[TimeForm], clocks: &Clocks, bad: KnownFault) -> OptionsFaul
         KnownFault::Ambiguous { place: _ } => OptionsFault::Known(bad),
         KnownFault::Holidays { place } => earlier(first_need(forms, clocks), place, bad),
         KnownFault::Years { place } => earlier(first_need(forms, clocks), place, bad),
+        KnownFault::Unknown { place } => earlier(first_need(forms, clocks), place, bad),
         KnownFault::Uncovered { place: _, day: _ } => or_known(needed(forms, clocks), bad),
     }
 }

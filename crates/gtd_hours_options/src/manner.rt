@@ -1,8 +1,6 @@
 //! Reading a text with options strictly or loosely.
 
 ghost use Rattle.std.specs.Prelude.{◌≡◌, IfErr, IfOk};
-ghost use Rattle.gtd_hours_known.specs.Manners.{placed_holiday, token_fault};
-ghost use Rattle.gtd_hours_known.specs.Manners as known;
 ghost use Rattle.gtd_hours_options.specs.Manners.{IsLooseReading, IsLooseStop, IsMendedStop, IsReadFaultWithIn};
 ghost use Rattle.gtd_hours_options.specs.Manners.{IsReadingWithIn, no_form, placed, placed_fault};
 ghost use Rattle.gtd_hours_options.specs.Reading.{IsOptionsFault};
@@ -10,10 +8,9 @@ ghost use Rattle.gtd_hours_options.specs.Reading.{IsOptionsFault};
 use crate::fault::{OptionsFault, OptionsReadFault};
 use crate::options::Options;
 use crate::reader::read_hours_with;
-use gtd_hours_grammar::{FaultKind, HoursFault};
-use gtd_hours_known::{KnownFault, KnownHours};
+use gtd_hours_known::{KnownHours, placed_fault as placed_known, placed_read, token_fault};
 use gtd_hours_loose::{Manner, Part, strict_form, written_place};
-use gtd_hours_loose_tokens::{DayNames, LooseStop, TokenFault};
+use gtd_hours_loose_tokens::{DayNames, LooseStop};
 use gtd_hours_moments::Need;
 use std::alloc::Global;
 
@@ -72,29 +69,11 @@ fn read_mended(
         Err(stop) => Err(no_form(stop)),
         Ok(form) => match read_hours_with(alloc, form.text.as_slice(), options) {
             Err(why) => Err(placed(text.len(), form.parts.as_slice(), why)),
-            Ok(read) => Ok(KnownHours {
-                hours: read.hours,
-                first_holiday: placed_holiday(
-                    text.len(),
-                    form.parts.as_slice(),
-                    read.first_holiday,
-                ),
-                form: Some(form),
-            }),
+            Ok(read) => match placed_read(alloc, text.len(), form, read) {
+                Err(_) => Err(OptionsReadFault::NoMemory),
+                Ok(read) => Ok(read),
+            },
         },
-    }
-}
-
-// What is wrong with a token, as a fault of the text.
-fn token_fault(why: TokenFault) -> KnownFault
-    ensures { result ≡ token_fault why }
-{
-    match why {
-        TokenFault::BadToken { place } => KnownFault::Hours(HoursFault {
-            kind: FaultKind::BadToken,
-            place,
-        }),
-        TokenFault::Ambiguous { place } => KnownFault::Ambiguous { place },
     }
 }
 
@@ -109,31 +88,6 @@ fn no_form(stop: LooseStop) -> OptionsReadFault
 }
 
 // A fault of the strict form with these parts, at its place in the text with so many bytes.
-fn placed_known(end: usize, parts: &[Part], bad: KnownFault) -> KnownFault
-    ensures { result ≡ known.placed_fault end parts.now bad }
-{
-    match bad {
-        KnownFault::Hours(bad) => KnownFault::Hours(HoursFault {
-            kind: bad.kind,
-            place: written_place(bad.place, end, parts),
-        }),
-        KnownFault::Ambiguous { place } => KnownFault::Ambiguous {
-            place: written_place(place, end, parts),
-        },
-        KnownFault::Holidays { place } => KnownFault::Holidays {
-            place: written_place(place, end, parts),
-        },
-        KnownFault::Years { place } => KnownFault::Years {
-            place: written_place(place, end, parts),
-        },
-        KnownFault::Uncovered { place, day } => KnownFault::Uncovered {
-            place: written_place(place, end, parts),
-            day,
-        },
-    }
-}
-
-// The same of a fault with options.
 fn placed_fault(end: usize, parts: &[Part], bad: OptionsFault) -> OptionsFault
     ensures { result ≡ placed_fault end parts.now bad }
 {
@@ -153,15 +107,5 @@ fn placed(end: usize, parts: &[Part], why: OptionsReadFault) -> OptionsReadFault
     match why {
         OptionsReadFault::NoMemory => OptionsReadFault::NoMemory,
         OptionsReadFault::Fault(bad) => OptionsReadFault::Fault(placed_fault(end, parts, bad)),
-    }
-}
-
-// The first holiday of the strict form, at its place in the text.
-fn placed_holiday(end: usize, parts: &[Part], first: Option<usize>) -> Option<usize>
-    ensures { result ≡ placed_holiday end parts.now first }
-{
-    match first {
-        None => None,
-        Some(place) => Some(written_place(place, end, parts)),
     }
 }

@@ -4,9 +4,9 @@
 //! itself stands before it.
 
 ghost use Rattle.std.specs.Prelude.{◌≡◌};
-ghost use Rattle.gtd_hours_options.specs.Misfits.{first_misfit, is_before, misfit, with_misfits};
+ghost use Rattle.gtd_hours_options.specs.Misfits.{first_misfit, is_bad_token, is_before, misfit, with_misfits};
 
-use gtd_hours_grammar::HoursFault;
+use gtd_hours_grammar::{FaultKind, HoursFault};
 use gtd_hours_known::KnownFault;
 use gtd_hours_moments::Told;
 
@@ -30,12 +30,22 @@ pub(crate) fn first_misfit(misfits: &[Told]) -> Option<KnownFault>
     }
 }
 
-// Whether it is a fault of the text itself that stands before a place.
+// Whether it is a byte with which no token begins, or a comment that is not whole.
+fn is_bad_token(kind: FaultKind) -> bool
+    ensures { result ≡ is_bad_token kind }
+{
+    match kind {
+        FaultKind::BadToken => true,
+        _ => false,
+    }
+}
+
+// Whether it is a fault of the text itself that comes first: one of its tokens, or one that stands before a place.
 fn is_before(bad: KnownFault, place: usize) -> bool
     ensures { result ≡ is_before bad place }
 {
     match bad {
-        KnownFault::Hours(bad) => bad.place < place,
+        KnownFault::Hours(bad) => is_bad_token(bad.kind) || bad.place < place,
         KnownFault::Ambiguous { place: at } => at < place,
         _ => false,
     }

@@ -8,7 +8,7 @@ ghost use Rattle.gtd_hours_options.specs.Reading.{IsTimesStop, StandsWith, check
 use crate::fault::{OptionsFault, OptionsReadFault, stopped};
 use crate::first::{checked_fault, has_times, time_fault};
 use crate::options::Options;
-use crate::told::{placed_fault, placed_holiday};
+use crate::told::{placed_fault, placed_read};
 use gtd_hours_known::{Known, KnownFault, KnownHours, KnownReadFault, read_known_hours};
 use gtd_hours_moments::{Clocks, MomentText, Placed, moment_text, plain_text};
 use std::alloc::Global;
@@ -27,7 +27,7 @@ pub fn read_hours_with(
     text: &[u8],
     options: &Options,
 ) -> Result<KnownHours, OptionsReadFault>
-    ensures hours { IfOk result (λ read. StandsWith options.now text.now read.hours read.first_holiday) }
+    ensures hours { IfOk result (StandsWith options.now text.now) }
     ensures form { IfOk result (λ read. read.form ≡ None) }
     ensures fault { IfErr result (IsOptionsStop options.now text.now) }
 {
@@ -48,7 +48,7 @@ fn read_other(
     options: &Options,
 ) -> Result<KnownHours, OptionsReadFault>
     requires { IsKnownFault options.now.known text.now bad }
-    ensures hours { IfOk result (λ read. StandsWith options.now text.now read.hours read.first_holiday) }
+    ensures hours { IfOk result (StandsWith options.now text.now) }
     ensures form { IfOk result (λ read. read.form ≡ None) }
     ensures fault { IfErr result (IsOtherStop options.now text.now bad) }
 {
@@ -73,7 +73,7 @@ fn read_times(
 ) -> Result<KnownHours, OptionsReadFault>
     requires { HasTimes text.now moments.now }
     ensures given { IfOk result (λ read. IsGiven options.now text.now moments.now) }
-    ensures hours { IfOk result (λ read. IsPlainReading options.now text.now read.hours read.first_holiday) }
+    ensures hours { IfOk result (IsPlainReading options.now text.now) }
     ensures form { IfOk result (λ read. read.form ≡ None) }
     ensures fault { IfErr result (IsTimesStop options.now text.now) }
 {
@@ -93,7 +93,7 @@ fn read_checked(
     requires times { HasTimes text.now moments.now }
     requires checked { IsRead options.now.known moments.now.checked.text.items }
     ensures given { IfOk result (λ read. IsGiven options.now text.now moments.now) }
-    ensures hours { IfOk result (λ read. IsPlainReading options.now text.now read.hours read.first_holiday) }
+    ensures hours { IfOk result (IsPlainReading options.now text.now) }
     ensures form { IfOk result (λ read. read.form ≡ None) }
     ensures fault { IfErr result (IsTimesStop options.now text.now) }
 {
@@ -111,7 +111,7 @@ fn read_plain(
     options: &Options,
 ) -> Result<KnownHours, OptionsReadFault>
     requires { IsGiven options.now text.now moments.now }
-    ensures hours { IfOk result (λ read. IsPlainReading options.now text.now read.hours read.first_holiday) }
+    ensures hours { IfOk result (IsPlainReading options.now text.now) }
     ensures form { IfOk result (λ read. read.form ≡ None) }
     ensures fault { IfErr result (IsTimesStop options.now text.now) }
 {
@@ -119,15 +119,10 @@ fn read_plain(
         Err(why) => Err(stopped(why)),
         Ok(plain) => match read_known_hours(alloc, plain.text.as_slice(), &options.known) {
             Err(why) => Err(plain_stop(text.len(), plain.places.as_slice(), why)),
-            Ok(read) => Ok(KnownHours {
-                hours: read.hours,
-                form: None,
-                first_holiday: placed_holiday(
-                    text.len(),
-                    plain.places.as_slice(),
-                    read.first_holiday,
-                ),
-            }),
+            Ok(read) => match placed_read(alloc, text.len(), plain.places.as_slice(), read) {
+                Err(_) => Err(OptionsReadFault::NoMemory),
+                Ok(read) => Ok(read),
+            },
         },
     }
 }

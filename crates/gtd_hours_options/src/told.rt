@@ -1,11 +1,12 @@
 //! What is told of the checked text and of the plain text, at places of the text.
 
-ghost use Rattle.std.specs.Prelude.{◌≡◌};
-ghost use Rattle.gtd_hours_options.specs.Told.{placed_fault, placed_holiday, told};
+ghost use Rattle.std.specs.Prelude.{◌≡◌, IfOk, None};
+ghost use Rattle.gtd_hours_options.specs.Told.{IsPlacedReading, placed_fault, placed_holiday, placed_places, told};
 
 use gtd_hours_grammar::HoursFault;
-use gtd_hours_known::KnownFault;
+use gtd_hours_known::{KnownFault, KnownHours};
 use gtd_hours_moments::{MomentText, Placed, told_fault, written_place};
+use std::alloc::{AllocError, Global};
 
 /// A fault of a text of these forms, at its place in the text with so many bytes for which they stand.
 pub(crate) fn placed_fault(end: usize, places: &[Placed], bad: KnownFault) -> KnownFault
@@ -29,6 +30,9 @@ pub(crate) fn placed_fault(end: usize, places: &[Placed], bad: KnownFault) -> Kn
             place: written_place(place, end, places),
             day,
         },
+        KnownFault::Unknown { place } => KnownFault::Unknown {
+            place: written_place(place, end, places),
+        },
     }
 }
 
@@ -42,12 +46,52 @@ pub(crate) fn told(end: usize, moments: &MomentText, bad: KnownFault) -> KnownFa
     }
 }
 
-/// The first holiday of a text of these forms, at its place in the text with so many bytes for which they stand.
-pub(crate) fn placed_holiday(end: usize, places: &[Placed], first: Option<usize>) -> Option<usize>
+// The first holiday of a text of these forms, at its place in the text with so many bytes for which they stand.
+fn placed_holiday(end: usize, places: &[Placed], first: Option<usize>) -> Option<usize>
     ensures { result ≡ placed_holiday end places.now first }
 {
     match first {
         None => None,
         Some(place) => Some(written_place(place, end, places)),
     }
+}
+
+// Places in a text of these forms, in the text.
+fn placed_places(
+    alloc: Global,
+    end: usize,
+    places: &[Placed],
+    own: &[usize],
+) -> Result<Vec<usize>, AllocError>
+    ensures { IfOk result (λ made. made.items ≡ placed_places end places.now own.now) }
+{
+    let mut made = Vec::new(alloc);
+    let mut rest = own;
+    while let Some((place, more)) = rest.split_first() {
+        made.push(written_place(*place, end, places))?;
+        rest = more;
+    }
+    Ok(made)
+}
+
+/// The hours of a text with so many bytes by those of a text of these forms.
+pub(crate) fn placed_read(
+    alloc: Global,
+    end: usize,
+    places: &[Placed],
+    read: KnownHours,
+) -> Result<KnownHours, AllocError>
+    ensures hours { IfOk result (IsPlacedReading end places.now read) }
+    ensures form { IfOk result (λ made. made.form ≡ None) }
+{
+    let first_holiday = placed_holiday(end, places, read.first_holiday);
+    let remarks = placed_places(alloc, end, places, read.remarks.as_slice())?;
+    let unknowns = placed_places(alloc, end, places, read.unknowns.as_slice())?;
+    Ok(KnownHours {
+        hours: read.hours,
+        form: None,
+        first_holiday,
+        remarks,
+        unknowns,
+    })
 }

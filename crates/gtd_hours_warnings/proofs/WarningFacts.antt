@@ -2,8 +2,8 @@
 use Rattle.std.proofs.Common.{◌≡◌, refl, sym, subst, Bool, true, false, List, [], ◌∷◌, ◌++◌, ℕ}
 use Rattle.std.specs.Prelude.{Option, Some, None}
 use Rattle.gtd_hours.specs.declared.hours.Hours.{Hours}
-use Rattle.gtd_hours_loose.specs.declared.reader.LooseHours.{LooseHours}
 use Rattle.gtd_hours_loose.specs.declared.strict.Part.{Part}
+use Rattle.gtd_hours_loose.specs.declared.strict.StrictForm.{StrictForm}
 use Rattle.gtd_hours_warnings.specs.Forms.{IsFaulty, IsReadIf}
 use Rattle.gtd_hours_warnings.specs.Warnings.{AddsHides, AreRules, IsHidesWarning, IsLooseWarning, IsPut, put_in}
 use Rattle.gtd_hours_warnings.specs.declared.warnings.Warning.{Warning}
@@ -29,9 +29,9 @@ pub rules_left : (hours : Hours) (all more : List ℕ) (k : ℕ) → all ≡ k �
 rules_left hours all more k e are = (first_rule hours all more k e are).2
 
 -- one warning more, and those that the other rules add
-pub hides_left : (text : List ℕ) (read : LooseHours) (all more : List ℕ) (k : ℕ) (w : Warning) (before after found : List Warning)
-    → all ≡ k ∷ more → IsHidesWarning text read k w → after ≡ put_in w before → AddsHides text read more after found
-    → AddsHides text read all before found
-hides_left text read all more k w before after found e is put adds =
-    subst (λ (l : List ℕ). AddsHides text read l before found) (sym e)
-    (w, is, subst (λ (l : List Warning). AddsHides text read more l found) put adds)
+pub hides_left : (text : List ℕ) (hours : Hours) (form : Option StrictForm) (all more : List ℕ) (k : ℕ) (w : Warning)
+    (before after found : List Warning) → all ≡ k ∷ more → IsHidesWarning text hours form k w → after ≡ put_in w before
+    → AddsHides text hours form more after found → AddsHides text hours form all before found
+hides_left text hours form all more k w before after found e is put adds =
+    subst (λ (l : List ℕ). AddsHides text hours form l before found) (sym e)
+    (w, is, subst (λ (l : List Warning). AddsHides text hours form more l found) put adds)

@@ -1,4 +1,5 @@
 pub mod Commas
 pub mod Forms
 pub mod Lines
+pub mod Marks
 pub mod Warnings

@@ -1,11 +1,9 @@
 -- The warnings of a text.
 use Rattle.std.specs.Prelude.{◌≡◌, ◌↔◌, ◌<◌, ℕ, Bool, true, false, List, [], ◌∷◌, ◌++◌, length, nat_le, Option, Some, None}
-use Rattle.std.specs.Prelude.{codes, decimal}
 use Rattle.std.specs.List.{Contains, insert, prefix_len}
 use Rattle.std.specs.List.Sorted.{IsStrictlyIncreasing}
 use Rattle.gtd_hours.specs.declared.hours.Hours.{Hours}
 use Rattle.gtd_hours_hidden.specs.Hides.{Hides}
-use Rattle.gtd_hours_holidays.specs.declared.known_years.KnownYears.{KnownYears}
 use Rattle.gtd_hours_loose.specs.Mending.{is_loose, stretch, written_place}
 use Rattle.gtd_hours_loose.specs.declared.reader.LooseHours.{LooseHours}
 use Rattle.gtd_hours_loose.specs.declared.strict.Part.{Part}
@@ -55,15 +53,14 @@ place_in text None place = place
 place_in text (Some form) place = written_place place (length text) form.parts.items
 
 -- where the semicolon before a rule stands in the strict form
-abbrev pub semicolon_in : List ℕ → LooseHours → ℕ → ℕ
-semicolon_in text read k = semicolon_of (strict_text text read.form) read.hours.rules.items k
+abbrev pub semicolon_in : List ℕ → Hours → Option StrictForm → ℕ → ℕ
+semicolon_in text hours form k = semicolon_of (strict_text text form) hours.rules.items k
 
 -- The warning of a rule that hides hours: where the rule begins, and the hours of the text with a comma before it.
-pub record IsHidesWarning (text : List ℕ) (read : LooseHours) (k : ℕ) (w : Warning) : Type 0 where
+pub record IsHidesWarning (text : List ℕ) (hours : Hours) (own : Option StrictForm) (k : ℕ) (w : Warning) : Type 0 where
   pub kind : w.kind ≡ kind.Hides
-  pub place : w.place ≡ place_in text read.form (rule_place (strict_text text read.form) (semicolon_in text read k))
-  pub form : IsJoinedForm (strict_text text read.form) (semicolon_in text read k) (word_before read.hours.rules.items k)
-      w.form.items
+  pub place : w.place ≡ place_in text own (rule_place (strict_text text own) (semicolon_in text hours own k))
+  pub form : IsJoinedForm (strict_text text own) (semicolon_in text hours own k) (word_before hours.rules.items k) w.form.items
 
 -- the warning is not behind this place
 abbrev pub is_by : ℕ → Warning → Bool
@@ -74,44 +71,26 @@ abbrev pub put_in : Warning → List Warning → List Warning
 put_in w before = insert before (prefix_len (is_by w.place) before) w
 
 -- The warnings of these rules are put to those before.
-abbrev pub AddsHides : List ℕ → LooseHours → List ℕ → List Warning → List Warning → Type 0
-AddsHides text read [] before after = after ≡ before
-AddsHides text read (k ∷ ks) before after =
-    (w : Warning) × IsHidesWarning text read k w × AddsHides text read ks (put_in w before) after
+abbrev pub AddsHides : List ℕ → Hours → Option StrictForm → List ℕ → List Warning → List Warning → Type 0
+AddsHides text hours form [] before after = after ≡ before
+AddsHides text hours form (k ∷ ks) before after =
+    (w : Warning) × IsHidesWarning text hours form k w × AddsHides text hours form ks (put_in w before) after
+
+-- Those of exactly the rules that hide hours are.
+pub record AddsAllHides (text : List ℕ) (hours : Hours) (form : Option StrictForm) (before after : List Warning) : Type 0 where
+  pub rules : List ℕ
+  pub hide : (k : ℕ) → Contains rules k ↔ Hides hours.rules.items k
+  pub in_order : IsStrictlyIncreasing rules
+  pub put : AddsHides text hours form rules before after
 
 -- ---- all
 
 -- The warnings of a text from which these hours are read: of what is written loosely, in its order; and put to these, at their
--- places, those of exactly the rules that hide hours.
+-- places, those of the rules that hide hours.
 pub record AreWarnings (text : List ℕ) (read : LooseHours) (found : List Warning) : Type 0 where
   pub loose : List Warning
-  pub rules : List ℕ
   pub are_loose : AddsLooseForm text read.form loose
-  pub hide : (k : ℕ) → Contains rules k ↔ Hides read.hours.rules.items k
-  pub in_order : IsStrictlyIncreasing rules
-  pub put : AddsHides text read rules loose found
-
--- ---- of a text with holidays
-
--- the years as a warning names them: `F-L`, also if they are the same
-abbrev pub years_text : KnownYears → List ℕ
-years_text years = decimal years.first ++ codes "-" ++ decimal years.last
-
--- The warning that a holiday at this place is known in these years alone.
-pub record IsKnownYearsWarning (place : ℕ) (years : KnownYears) (w : Warning) : Type 0 where
-  pub kind : w.kind ≡ kind.KnownYears
-  pub at : w.place ≡ place
-  pub form : w.form.items ≡ years_text years
-
--- The warnings of a text with this strict form, if it has one of its own, whose first holiday is at this place: of what is written
--- loosely, in its order; and put to these, at its place, that the holidays are known in these years alone.
-pub record AreHolidayWarnings (text : List ℕ) (form : Option StrictForm) (place : ℕ) (years : KnownYears) (found : List Warning)
-    : Type 0 where
-  pub loose : List Warning
-  pub are_loose : AddsLooseForm text form loose
-  pub known : Warning
-  pub is_known : IsKnownYearsWarning place years known
-  pub put : found ≡ put_in known loose
+  pub put : AddsAllHides text read.hours read.form loose found
 
 -- ---- as the code goes
 

@@ -1,11 +1,14 @@
-//! The warnings of a text of opening hours: where it is written loosely, and which of its rules hide hours of an earlier one; or, of
-//! a text with holidays, in which years these are known.
+//! The warnings of a text of opening hours: where it is written loosely, which of its rules hide hours of an earlier one, which
+//! comments and fallback rules leave something open; or, of a text with holidays, in which years these are known.
 #![tactic(auto)]
 
 mod commas;
 mod forms;
+pub mod laws;
 mod lines;
+mod marks;
 mod warnings;
 
 pub use lines::{push_lines, push_text};
-pub use warnings::{Warning, WarningKind, holiday_warnings_of, warnings_of};
+pub use marks::warnings_with;
+pub use warnings::{Warning, WarningKind, warnings_of};

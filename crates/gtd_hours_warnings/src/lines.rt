@@ -14,6 +14,8 @@ fn kind_name(kind: WarningKind) -> &'static [u8]
         WarningKind::Loose => b"Loose".as_slice(),
         WarningKind::Hides => b"Hides".as_slice(),
         WarningKind::KnownYears => b"KnownYears".as_slice(),
+        WarningKind::Remark => b"Remark".as_slice(),
+        WarningKind::NotKnown => b"NotKnown".as_slice(),
     }
 }
 

@@ -2,16 +2,14 @@
 
 ghost use Rattle.std.specs.Prelude.{◌≡◌, ◌<◌, ◌≤◌, [], IfOk, OnOk, length};
 ghost use Rattle.std.specs.List.{prefix_len};
-ghost use Rattle.gtd_hours_warnings.specs.Warnings.{AddsHides, AddsLoose, AddsLooseForm, AreWarnings, IsHidesWarning};
-ghost use Rattle.gtd_hours_warnings.specs.Warnings.{AreHolidayWarnings, IsKnownYearsWarning, IsLooseWarning};
-ghost use Rattle.gtd_hours_warnings.specs.Warnings.{AreRules, IsPutIf, is_by, place_in, put_in, strict_text};
+ghost use Rattle.gtd_hours_warnings.specs.Warnings.{AddsAllHides, AddsLoose, AddsLooseForm, AreWarnings, IsHidesWarning};
+ghost use Rattle.gtd_hours_warnings.specs.Warnings.{IsLooseWarning, IsPutIf, is_by, place_in, put_in, strict_text};
 
 use crate::commas::{rule_place, semicolon_of, word_before};
 use crate::forms::joined_form;
+use gtd_hours::Hours;
 use gtd_hours_hidden::hiding_rules;
-use gtd_hours_holidays::KnownYears;
 use gtd_hours_loose::{LooseHours, Part, StrictForm, is_loose, stretch, written_place};
-use itoa::Buffer;
 use std::alloc::{AllocError, Global};
 
 /// What a warning is of.
@@ -23,6 +21,10 @@ pub enum WarningKind {
     Hides,
     /// A holiday, which is known in some years alone.
     KnownYears,
+    /// A comment on an open rule without a word that says that it is open.
+    Remark,
+    /// A fallback rule of which it is not known whether it is open.
+    NotKnown,
 }
 
 /// A warning of a text of opening hours.
@@ -30,10 +32,11 @@ pub enum WarningKind {
 pub struct Warning {
     /// What it is of.
     pub kind: WarningKind,
-    /// The number of bytes before the token, before the rule, or before the holiday.
+    /// The number of bytes before the token, before the rule, before the holiday, before the comment, or before the word or the
+    /// comment that makes a fallback rule unknown.
     pub place: usize,
-    /// What is written there strictly; or the hours with a comma before the rule, as they are strictly written; or the years. It
-    /// may be empty.
+    /// What is written there strictly; or the hours with a comma before the rule, as they are strictly written; or the years; or
+    /// the comment behind the word that it lacks. It may be empty.
     pub form: Vec<u8>,
 }
 
@@ -100,8 +103,8 @@ fn loose_warnings(alloc: Global, text: &[u8], form: &StrictForm) -> Result<Vec<W
     Ok(warnings)
 }
 
-// The same of a text that may have no strict form of its own.
-fn form_warnings(
+/// The warnings of what is written loosely, of a text that may have no strict form of its own.
+pub(crate) fn form_warnings(
     alloc: Global,
     text: &[u8],
     form: &Option<StrictForm>,
@@ -118,17 +121,18 @@ fn form_warnings(
 fn hides_warning(
     alloc: Global,
     text: &[u8],
-    read: &LooseHours,
+    hours: &Hours,
+    form: &Option<StrictForm>,
     rule: usize,
 ) -> Result<Warning, AllocError>
     requires later { 0 < rule }
-    requires some { rule < length read.now.hours.rules.items }
-    ensures { IfOk result (IsHidesWarning text.now read.now rule) }
+    requires some { rule < length hours.now.rules.items }
+    ensures { IfOk result (IsHidesWarning text.now hours.now form.now rule) }
 {
-    let strict = strict_text(text, &read.form);
-    let rules = read.hours.rules.as_slice();
+    let strict = strict_text(text, form);
+    let rules = hours.rules.as_slice();
     let semicolon = semicolon_of(strict, rules, rule);
-    let place = place_in(text, &read.form, rule_place(strict, semicolon));
+    let place = place_in(text, form, rule_place(strict, semicolon));
     let form = joined_form(alloc, strict, semicolon, word_before(rules, rule))?;
     Ok(Warning {
         kind: WarningKind::Hides,
@@ -154,8 +158,8 @@ fn count_by(warnings: &[Warning], place: usize) -> usize
     count
 }
 
-// Puts a warning behind those that are not behind its place.
-fn put_in(warnings: &mut Vec<Warning>, warning: Warning) -> Result<(), AllocError>
+/// Puts a warning behind those that are not behind its place.
+pub(crate) fn put_in(warnings: &mut Vec<Warning>, warning: Warning) -> Result<(), AllocError>
     ensures { OnOk result (warnings.new.items ≡ put_in warning warnings.old.items) }
 {
     let index = count_by(warnings.as_slice(), warning.place);
@@ -163,20 +167,20 @@ fn put_in(warnings: &mut Vec<Warning>, warning: Warning) -> Result<(), AllocErro
     Ok(())
 }
 
-// Adds the warnings of these rules, each at its place.
-fn add_hides(
+/// Adds the warnings of the rules that hide hours, each at its place.
+pub(crate) fn add_hides(
     alloc: Global,
     warnings: &mut Vec<Warning>,
     text: &[u8],
-    read: &LooseHours,
-    rules: &[usize],
+    hours: &Hours,
+    form: &Option<StrictForm>,
 ) -> Result<(), AllocError>
-    requires { AreRules read.now.hours rules.now }
-    ensures { OnOk result (AddsHides text.now read.now rules.now warnings.old.items warnings.new.items) }
+    ensures { OnOk result (AddsAllHides text.now hours.now form.now warnings.old.items warnings.new.items) }
 {
-    let mut rest = rules;
+    let rules = hiding_rules(alloc, hours)?;
+    let mut rest = rules.as_slice();
     while let Some((rule, later)) = rest.split_first() {
-        let warning = hides_warning(alloc, text, read, *rule)?;
+        let warning = hides_warning(alloc, text, hours, form, *rule)?;
         put_in(warnings, warning)?;
         rest = later;
     }
@@ -194,44 +198,6 @@ pub fn warnings_of(
     ensures { IfOk result (λ found. AreWarnings text.now read.now found.items) }
 {
     let mut warnings = form_warnings(alloc, text, &read.form)?;
-    let rules = hiding_rules(alloc, &read.hours)?;
-    add_hides(alloc, &mut warnings, text, read, rules.as_slice())?;
-    Ok(warnings)
-}
-
-// The warning that the holiday at this place, and all others, are known in these years alone.
-fn known_years_warning(
-    alloc: Global,
-    place: usize,
-    years: KnownYears,
-) -> Result<Warning, AllocError>
-    ensures { IfOk result (IsKnownYearsWarning place years) }
-{
-    let mut form = Vec::new(alloc);
-    form.extend_from_slice(Buffer::new().format(years.first).as_bytes())?;
-    form.extend_from_slice(b"-")?;
-    form.extend_from_slice(Buffer::new().format(years.last).as_bytes())?;
-    Ok(Warning {
-        kind: WarningKind::KnownYears,
-        place,
-        form,
-    })
-}
-
-/// The warnings of a text with this strict form, if it has one of its own, whose first holiday is at this place, and whose
-/// holidays are known in these years: in the order of their places where it is written loosely, and the years at the holiday.
-/// `AllocError` is answered only if memory was refused.
-pub fn holiday_warnings_of(
-    alloc: Global,
-    text: &[u8],
-    form: &Option<StrictForm>,
-    place: usize,
-    years: KnownYears,
-) -> Result<Vec<Warning>, AllocError>
-    ensures { IfOk result (λ found. AreHolidayWarnings text.now form.now place years found.items) }
-{
-    let mut warnings = form_warnings(alloc, text, form)?;
-    let warning = known_years_warning(alloc, place, years)?;
-    put_in(&mut warnings, warning)?;
+    add_hides(alloc, &mut warnings, text, &read.hours, &read.form)?;
     Ok(warnings)
 }

@@ -11,10 +11,10 @@
 use gtd_devices::{Host, HostOut, InputFault, read_whole};
 use gtd_hours_holidays::Holidays;
 use gtdesk_tool::{
-    ConditionsPlan, DiffPlan, Ending, Files, Known, LineRefusal, Moment, OnePlan, Plan,
+    ConditionsPlan, DiffPlan, Ending, Files, LineRefusal, Moment, OnePlan, Options, Plan,
     RecordsPlan, Refusal, RefusalLines, RunRefusal, Turn, WordsRefusal, ZonePlan, joined,
-    moment_in_zone, no_zone, perform, perform_ask, perform_conditions, perform_diff, plan,
-    read_table, refused_file, refused_table, word_snippet, zone_path,
+    moment_in_zone, no_options, no_zone, options_with, perform, perform_ask, perform_conditions,
+    perform_diff, plan, read_table, refused_file, refused_table, word_snippet, zone_path,
 };
 use std::fs::File;
 use std::io::{BufWriter, ErrorKind, Read};
@@ -72,13 +72,20 @@ fn run_file(rt: &HostRuntime, turn: Turn<'_>) -> Result<Ending, RunRefusal> {
     }
 }
 
-// Carries a plan out for one file after the other, where this is known of holidays, and tells why a file is refused. After an
-// output that failed, no file follows.
-fn run_files(rt: &HostRuntime, plan: &OnePlan, known: &Known, paths: &[String]) -> ExitCode {
+// Carries a plan out for one file after the other, with these options of texts of hours, and tells why a file is refused. After
+// an output that failed, no file follows.
+fn run_files(rt: &HostRuntime, plan: &OnePlan, options: &Options, paths: &[String]) -> ExitCode {
     let mut ended = Ok(Ending::Done);
     for path in paths {
         let path = path.as_str();
-        let answer = run_file(rt, Turn { plan, path, known });
+        let answer = run_file(
+            rt,
+            Turn {
+                plan,
+                path,
+                options,
+            },
+        );
         if let Err(refusal) = answer {
             tell(rt, Refusal::Run(refusal), path, "");
         }
@@ -111,8 +118,7 @@ fn table_at(rt: &HostRuntime, path: &str) -> Result<Option<Holidays>, RunRefusal
 
 // Carries the plan of `records` out, by its table of holidays, if one is given. If that is refused or at fault, no file follows.
 fn run_records(rt: &HostRuntime, plan: &OnePlan, records: &RecordsPlan) -> ExitCode {
-    let years = records.years;
-    let holidays = match &records.holidays {
+    let table = match &records.options.holidays {
         Some(path) => match table_at(rt, path.as_str()) {
             Ok(Some(table)) => Some(table),
             Ok(None) => return ExitCode::from(Ending::FaultsListed.status()),
@@ -120,8 +126,8 @@ fn run_records(rt: &HostRuntime, plan: &OnePlan, records: &RecordsPlan) -> ExitC
         },
         None => None,
     };
-    let known = Known { holidays, years };
-    run_files(rt, plan, &known, records.files.as_slice())
+    let options = options_with(table, &records.options);
+    run_files(rt, plan, &options, records.files.as_slice())
 }
 
 // Carries a plan out that reads one file at a time, or none.
@@ -129,19 +135,26 @@ fn run_one(rt: &HostRuntime, plan: &OnePlan) -> ExitCode {
     if let OnePlan::Records(records) = plan {
         return run_records(rt, plan, records);
     }
-    let known = &Known {
-        holidays: None,
-        years: None,
-    };
+    let options = &no_options();
     match plan.files() {
-        Files::Several(paths) => run_files(rt, plan, known, paths),
+        Files::Several(paths) => run_files(rt, plan, options, paths),
         Files::One(path) => {
-            let answer = run_file(rt, Turn { plan, path, known });
+            let turn = Turn {
+                plan,
+                path,
+                options,
+            };
+            let answer = run_file(rt, turn);
             finish(rt, answer, path, plan.hours_text())
         }
         Files::None => {
             let path = "";
-            let answer = print(rt, Turn { plan, path, known }, io::empty());
+            let turn = Turn {
+                plan,
+                path,
+                options,
+            };
+            let answer = print(rt, turn, io::empty());
             finish(rt, answer, path, plan.hours_text())
         }
     }

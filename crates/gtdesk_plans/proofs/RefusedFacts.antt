@@ -10,6 +10,7 @@ use Rattle.gtdesk_plans.specs.Given.{Give, Given}
 use Rattle.gtdesk_plans.specs.Plans.{AreRefused, AskFor, Asks, IsRefused, IsWordFault, IsWordless, KeepsWord}
 use Rattle.gtdesk_plans.specs.Refused.{IsKept, IsRefusedText, text_in, word_at, word_of}
 use Rattle.gtdesk_plans.specs.Rows.{text_of}
+use Rattle.gtdesk_plans.specs.TextOptions.{option_words}
 use Rattle.gtdesk_plans.proofs.PlanFacts.{first_word, only_asked, planned_words}
 use Rattle.gtdesk_plans.specs.declared.forms.Form.{Form}
 use Rattle.gtdesk_plans.specs.declared.forms.Form.TheVariants as form
@@ -67,6 +68,26 @@ day_names_named : (f : Form) (rows : List Row) → kept_as f rows name.Names ≡
 day_names_named f rows e =
     given_named (kept_as f rows) (first_of (codes "day-names") rows) name.Names Reading.day_names e (λ t. refl)
 
+option_named : (f : Form) (rows : List Row) → kept_as f rows name.Names ≡ text_of (codes "day-names") rows
+    → kept_as f rows name.Years ≡ text_of (codes "years") rows
+    → kept_as f rows name.OpenEnd ≡ text_of (codes "open-end") rows
+    → kept_as f rows name.Points ≡ text_of (codes "points") rows
+    → kept_as f rows name.Sunrise ≡ text_of (codes "sunrise") rows
+    → kept_as f rows name.Sunset ≡ text_of (codes "sunset") rows
+    → kept_as f rows name.Dawn ≡ text_of (codes "dawn") rows
+    → kept_as f rows name.Dusk ≡ text_of (codes "dusk") rows
+    → AllNamed (kept_as f rows) (option_words rows)
+option_named f rows names years open_end points sunrise sunset dawn dusk =
+    let text = kept_as f rows in
+    both_named text _ _ (day_names_named f rows names)
+    (both_named text _ _ (given_named text (first_of (codes "years") rows) name.Years Reading.years years (λ t. refl))
+    (both_named text _ _ (given_named text (first_of (codes "open-end") rows) name.OpenEnd Reading.open_end open_end (λ t. refl))
+    (both_named text _ _ (given_named text (first_of (codes "points") rows) name.Points Reading.points points (λ t. refl))
+    (both_named text _ _ (given_named text (first_of (codes "sunrise") rows) name.Sunrise Reading.event sunrise (λ t. refl))
+    (both_named text _ _ (given_named text (first_of (codes "sunset") rows) name.Sunset Reading.event sunset (λ t. refl))
+    (both_named text _ _ (given_named text (first_of (codes "dawn") rows) name.Dawn Reading.event dawn (λ t. refl))
+    (given_named text (first_of (codes "dusk") rows) name.Dusk Reading.event dusk (λ t. refl))))))))
+
 all_named : (f : Form) (rows : List Row) → AllNamed (kept_as f rows) (words_of f rows)
 all_named form.Now rows = (
   refl,
@@ -88,9 +109,7 @@ all_named form.Faults rows =
     (given_named (kept_as form.Faults rows) (first_of (codes "at") rows) name.Day Reading.day refl (λ t. refl))
 all_named form.Words rows =
     (refl, given_named (kept_as form.Words rows) (first_of (codes "lang") rows) name.Language Reading.language refl (λ t. refl))
-all_named form.Hours rows =
-    both_named (kept_as form.Hours rows) _ _ (day_names_named form.Hours rows refl)
-    (given_named (kept_as form.Hours rows) (first_of (codes "years") rows) name.Years Reading.years refl (λ t. refl))
+all_named form.Hours rows = option_named form.Hours rows refl refl refl refl refl refl refl refl
 all_named form.HoursOf rows = (refl, tt)
 all_named form.Same rows = (
   refl,
@@ -111,10 +130,8 @@ all_named form.SameHours rows = (
 all_named form.SameRows rows = tt
 all_named form.Diff rows = (refl, (refl, (refl, (refl, tt))))
 all_named form.Ask rows = tt
-all_named form.Records rows =
-    both_named (kept_as form.Records rows) _ _ (day_names_named form.Records rows refl)
-    (given_named (kept_as form.Records rows) (first_of (codes "years") rows) name.Years Reading.years refl (λ t. refl))
-all_named form.Conditions rows = tt
+all_named form.Records rows = option_named form.Records rows refl refl refl refl refl refl refl refl
+all_named form.Conditions rows = day_names_named form.Conditions rows refl
 all_named form.Mend rows = tt
 all_named form.MendHours rows = day_names_named form.MendHours rows refl
 all_named form.Picture rows = (refl, (refl, (refl, (refl, tt))))

@@ -1,5 +1,5 @@
 -- The words of a command that has a plan all stand for something.
-use Rattle.std.proofs.Common.{◌≡◌, ◌++◌, ap, List, [], ◌∷◌, Option, Some, None, is_some, ℕ}
+use Rattle.std.proofs.Common.{◌≡◌, ap, List, [], ◌∷◌, Option, Some, None, is_some, ℕ}
 use Rattle.std.specs.Prelude.{IsSomeAnd, codes}
 use Rattle.clap.specs.Walk.{Row, first_of}
 use Rattle.gtd_core.specs.declared.domain.Domain.{Domain}
@@ -11,6 +11,7 @@ use Rattle.gtd_mistakes.specs.declared.rule.Rule.{Rule}
 use Rattle.gtdesk_plans.specs.Arguments.{Text}
 use Rattle.gtd_phrases.specs.declared.phrase.Language.{Language}
 use Rattle.gtdesk_plans.specs.Commands.{asks_of, words_of}
+use Rattle.gtdesk_plans.specs.Commands.Conditions as conditions
 use Rattle.gtdesk_plans.specs.Commands.Diff as diff
 use Rattle.gtdesk_plans.specs.Commands.Faults as faults
 use Rattle.gtdesk_plans.specs.Commands.Hours as hours
@@ -21,19 +22,24 @@ use Rattle.gtdesk_plans.specs.Commands.Records as records
 use Rattle.gtdesk_plans.specs.Commands.Same as same
 use Rattle.gtdesk_plans.specs.Commands.Words as words
 use Rattle.gtdesk_words.specs.HoursWords.{HasDomain, IsHoursDomain}
-use Rattle.gtdesk_words.specs.Readings.{AllStand, Reading, Word, if_given, word_as}
+use Rattle.gtdesk_words.specs.Readings.{AllStand, AreStopped, Reading, if_given, word_as}
 use Rattle.gtdesk_words.specs.Words.{AreRulesIn, IsDayIn, IsDayWord, IsFromWord, day_names_for, elements_in, language_for}
 use Rattle.gtdesk_words.specs.YearsWords.{AreYearsIn, IsYearsWord}
 use Rattle.gtdesk_plans.specs.Rows.{text_of}
+use Rattle.gtdesk_plans.specs.TextOptions.{AreOptions, clock_texts, option_words}
+use Rattle.gtdesk_plans.specs.declared.options.HoursOptions.{HoursOptions}
+use Rattle.gtdesk_words.specs.facts.ClockWords.{clocks_stand}
+use Rattle.gtdesk_words.specs.facts.Readings.{both_stand, stopped_behind}
+use Rattle.gtdesk_words.specs.ClockWords.{clock_words}
+use Rattle.gtdesk_words.specs.declared.refusal.WordsRefusal.{WordsRefusal}
+use Rattle.gtdesk_plans.specs.DayNames.{AreDayNames}
 use Rattle.gtdesk_plans.specs.declared.commands.diff.DiffPlan.{DiffPlan}
 use Rattle.gtdesk_plans.specs.declared.commands.faults.FaultsPlan.{FaultsPlan}
-use Rattle.gtdesk_plans.specs.declared.commands.hours.HoursPlan.{HoursPlan}
 use Rattle.gtdesk_plans.specs.declared.commands.now.NowPlan.{NowPlan}
 use Rattle.gtdesk_plans.specs.declared.commands.now.NowView.{NowView}
 use Rattle.gtdesk_plans.specs.declared.commands.now.ZonePlan.{ZonePlan}
 use Rattle.gtdesk_plans.specs.declared.commands.picture.DomainPicturePlan.{DomainPicturePlan}
 use Rattle.gtdesk_plans.specs.declared.commands.picture.PictureSubject.{PictureSubject}
-use Rattle.gtdesk_plans.specs.declared.commands.records.RecordsPlan.{RecordsPlan}
 use Rattle.gtdesk_plans.specs.declared.commands.same.SamePlan.{SamePlan}
 use Rattle.gtdesk_plans.specs.declared.forms.Form.{Form}
 use Rattle.gtdesk_plans.specs.declared.forms.Form.TheVariants as form
@@ -81,9 +87,21 @@ day_stands : (text : Option Text) (days : Option Horizon) → IsDayIn text days
 day_stands None days is = tt
 day_stands (Some text) days is = (some_and days (IsDayWord text) is, tt)
 
-both_stand : (words others : List Word) → AllStand words → AllStand others → AllStand (words ++ others)
-both_stand [] others s t = t
-both_stand (word ∷ words) others s t = (s.0, both_stand words others s.1 t)
+-- ---- the options of texts of opening hours
+
+-- a refusal behind what stands before the words for times
+pub clocks_stopped : (rows : List Row) (r : WordsRefusal) (names : DayNames) (years : Option KnownYears)
+    → AreDayNames rows names → AreYearsIn (first_of (codes "years") rows) years
+    → AreStopped (clock_words (clock_texts rows)) r → AreStopped (option_words rows) r
+clocks_stopped rows r names years are in_years h =
+    stopped_behind _ _ r (day_names_stand (first_of (codes "day-names") rows) names are)
+    (stopped_behind _ _ r (years_stand (first_of (codes "years") rows) years in_years) h)
+
+options_stand : (rows : List Row) (o : HoursOptions) → AreOptions rows o → AllStand (option_words rows)
+options_stand rows o h =
+    both_stand _ _ (day_names_stand (first_of (codes "day-names") rows) o.names h.names)
+    (both_stand _ _ (years_stand (first_of (codes "years") rows) o.years h.years)
+    (clocks_stand (clock_texts rows) o.clocks h.clocks))
 
 -- ---- each command
 
@@ -116,16 +134,6 @@ faults_stand rows p h =
     both_stand _ _ (rules_stand (first_of (codes "allow") rows) h.off h.rules)
     (day_stands (first_of (codes "at") rows) h.days h.day)
 
-hours_stand : (rows : List Row) (p : HoursPlan) → hours.IsTextPlan rows p → AllStand (hours.words rows)
-hours_stand rows p h =
-    both_stand _ _ (day_names_stand (first_of (codes "day-names") rows) p.names h.names)
-    (years_stand (first_of (codes "years") rows) p.years h.years)
-
-records_stand : (rows : List Row) (p : RecordsPlan) → records.IsPlan rows p → AllStand (records.words rows)
-records_stand rows p h =
-    both_stand _ _ (day_names_stand (first_of (codes "day-names") rows) p.names h.names)
-    (years_stand (first_of (codes "years") rows) p.years h.years)
-
 diff_stand : (rows : List Row) (p : DiffPlan) → diff.IsPlan rows p → AllStand (diff.words rows)
 diff_stand rows p h = ((_, h.2.first), ((_, h.2.last), ((p.horizon, h.2), ((p.vehicle, h.3), tt))))
 
@@ -144,7 +152,7 @@ all_stand form.Words rows p h =
     let x = some_and (words.plan_in p) (words.IsPlan rows) h in
     (x.1.0.faultless, language_stands (first_of (codes "lang") rows) x.0.language x.1.1)
 all_stand form.Hours rows p h =
-    let x = some_and (hours.text_plan_in p) (hours.IsTextPlan rows) h in hours_stand rows x.0 x.1
+    let x = some_and (hours.text_plan_in p) (hours.IsTextPlan rows) h in options_stand rows x.0.options x.1.options
 all_stand form.HoursOf rows p h = let x = some_and (hours.plan_in p) _ h in (x.1.faultless, tt)
 all_stand form.Same rows p h = let x = some_and (same.plan_in p) (same.IsPlan rows) h in same_stand rows x.0 x.1
 all_stand form.SameHours rows p h = let x = some_and (same.plan_in p) (same.IsHoursPlan rows) h in same_hours_stand rows x.0 x.1
@@ -152,8 +160,10 @@ all_stand form.SameRows rows p h = tt
 all_stand form.Diff rows p h = let x = some_and (diff.plan_in p) (diff.IsPlan rows) h in diff_stand rows x.0 x.1
 all_stand form.Ask rows p h = tt
 all_stand form.Records rows p h =
-    let x = some_and (records.plan_in p) (records.IsPlan rows) h in records_stand rows x.0 x.1
-all_stand form.Conditions rows p h = tt
+    let x = some_and (records.plan_in p) (records.IsPlan rows) h in options_stand rows x.0.options x.1.options
+all_stand form.Conditions rows p h =
+    let x = some_and (conditions.plan_in p) (conditions.IsPlan rows) h in
+    day_names_stand (first_of (codes "day-names") rows) x.0.names x.1.names
 all_stand form.Mend rows p h = tt
 all_stand form.MendHours rows p h =
     let x = some_and (mend.hours_plan_in p) (mend.IsHoursPlan rows) h in

@@ -13,6 +13,7 @@ use Rattle.gtdesk_plans.specs.Hints.{meant_by}
 use Rattle.gtd_moments.specs.Moments.{moment_in}
 use Rattle.gtdesk_plans.specs.Rows.{but_last, from_last, has_input, has_value, is_given, is_input, is_read_once, text_of}
 use Rattle.gtdesk_plans.specs.Rows.{texts_of}
+use Rattle.gtdesk_plans.specs.TextOptions.{has_text_options}
 use Rattle.gtdesk_plans.specs.declared.forms.Form.{Form}
 use Rattle.gtdesk_plans.specs.declared.forms.Form.TheVariants as form
 use Rattle.gtdesk_plans.specs.declared.forms.Misuse.{Misuse}
@@ -21,7 +22,7 @@ use Rattle.gtdesk_plans.specs.declared.forms.Misuse.TheVariants as misuse
 -- What is wrong with the words of a command that have no fault and do not give all that it takes, or more.
 abbrev pub told_of : Misuse → Text
 told_of misuse.TextOrDomain = codes "hours takes either TEXT or --of DOMAIN"
-told_of misuse.OptionsOfText = codes "hours takes --strict, --day-names, --holidays and --years with TEXT alone"
+told_of misuse.OptionsOfText = codes "hours takes no other option with --of DOMAIN"
 told_of misuse.WordsOrFile = codes "same takes either FIRST and SECOND or --file FILE alone"
 told_of misuse.NoWarnings = codes "faults takes --allow and --at with --warn alone"
 told_of misuse.FileOrHours = codes "mend takes either FILE or hours TEXT"
@@ -70,12 +71,6 @@ faults_form rows =
 -- `records` of files, where the table of holidays may be standard input: then none of the files is.
 abbrev pub records_form : Bool → List Text → Result Form Misuse
 records_form table files = if table && has_input files then Err misuse.InputTwice else form_with form.Records files
-
--- Whether options of a text are given to `hours`.
-abbrev pub has_text_options : List Row → Bool
-has_text_options rows =
-    is_given (codes "strict") rows
-    || (has_value (codes "day-names") rows || (has_value (codes "holidays") rows || has_value (codes "years") rows))
 
 -- `hours` of a text or of a domain, of which one is given; options of texts go with a text.
 abbrev pub hours_form : Bool → Bool → Bool → Result Form Misuse

@@ -1,6 +1,7 @@
 pub mod Arguments
 pub mod Rows
 pub mod DayNames
+pub mod TextOptions
 pub mod Commands
 pub mod CommandLine
 pub mod Hints
@@ -10,6 +11,8 @@ pub mod Refused
 pub use Rattle.gtdesk_words.specs.Text
 pub use Rattle.gtdesk_words.specs.Words
 pub use Rattle.gtdesk_words.specs.YearsWords
+pub use Rattle.gtdesk_words.specs.ClockTexts
+pub use Rattle.gtdesk_words.specs.ClockWords
 pub use Rattle.gtdesk_words.specs.HoursWords
 pub use Rattle.gtdesk_words.specs.Readings
 pub use Rattle.gtdesk_words.specs.Statuses

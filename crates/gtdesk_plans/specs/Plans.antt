@@ -74,7 +74,7 @@ files_of (one.Picture p) = string_bytes p.file ∷ []
 files_of (one.SameRows files) = map string_bytes files.items
 files_of (one.Records p) = map string_bytes p.files.items
 files_of (one.Mend file) = string_bytes file ∷ []
-files_of (one.DomainOf p) = path_if (option_map string_bytes p.holidays)
+files_of (one.DomainOf p) = path_if (option_map string_bytes p.options.holidays)
 files_of other = []
 
 -- The same of what a plan answers.

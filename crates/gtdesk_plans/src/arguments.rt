@@ -70,6 +70,62 @@ pub(crate) const DAY_NAMES: Argument = Argument::Option {
     help: "In which language Di, Do and So are weekdays: de",
 };
 
+/// The table of holidays.
+pub(crate) const HOLIDAYS: Argument = Argument::Option {
+    name: "holidays",
+    value: "FILE",
+    help: "The table of holidays, for PH and SH; or - for standard input",
+};
+
+/// The years in which holidays are known.
+pub(crate) const YEARS: Argument = Argument::Option {
+    name: "years",
+    value: "YEARS",
+    help: "The years in which holidays are known: F-L or F",
+};
+
+/// The clock time of an open end.
+pub(crate) const OPEN_END: Argument = Argument::Option {
+    name: "open-end",
+    value: "HH:MM",
+    help: "The clock time of an open end, as 17:00+: 00:00 to 48:00",
+};
+
+/// How long a point of time lasts.
+pub(crate) const POINTS: Argument = Argument::Option {
+    name: "points",
+    value: "N",
+    help: "The minutes of a point of time: 1 to 1440",
+};
+
+/// The clock time of sunrise.
+pub(crate) const SUNRISE: Argument = Argument::Option {
+    name: "sunrise",
+    value: "HH:MM",
+    help: "The clock time of sunrise: 00:00 to 24:00",
+};
+
+/// The clock time of sunset.
+pub(crate) const SUNSET: Argument = Argument::Option {
+    name: "sunset",
+    value: "HH:MM",
+    help: "The clock time of sunset: 00:00 to 24:00",
+};
+
+/// The clock time of dawn.
+pub(crate) const DAWN: Argument = Argument::Option {
+    name: "dawn",
+    value: "HH:MM",
+    help: "The clock time of dawn: 00:00 to 24:00",
+};
+
+/// The clock time of dusk.
+pub(crate) const DUSK: Argument = Argument::Option {
+    name: "dusk",
+    value: "HH:MM",
+    help: "The clock time of dusk: 00:00 to 24:00",
+};
+
 /// The year of a picture.
 pub(crate) const YEAR: Argument = Argument::Word {
     name: "YEAR",

@@ -12,6 +12,7 @@ use crate::given::{
     but_last, from_last, has_value, is_given, is_input, is_once, is_read_once, reads_input, text,
     value, values,
 };
+use crate::options::has_text_options;
 use clap::ArgMatches;
 use gtd_moments::read_moment;
 
@@ -59,7 +60,7 @@ pub(crate) enum Form {
 pub(crate) enum Misuse {
     /// `hours` has both its word and its option of a domain, or neither.
     TextOrDomain,
-    /// `hours` has options of a text, and no text.
+    /// `hours` has options of a text, and a domain.
     OptionsOfText,
     /// `same` has neither both its words nor its option of a file alone.
     WordsOrFile,
@@ -89,9 +90,7 @@ impl Misuse {
     {
         match self {
             Misuse::TextOrDomain => "hours takes either TEXT or --of DOMAIN",
-            Misuse::OptionsOfText => {
-                "hours takes --strict, --day-names, --holidays and --years with TEXT alone"
-            }
+            Misuse::OptionsOfText => "hours takes no other option with --of DOMAIN",
             Misuse::WordsOrFile => "same takes either FIRST and SECOND or --file FILE alone",
             Misuse::NoWarnings => "faults takes --allow and --at with --warn alone",
             Misuse::FileOrHours => "mend takes either FILE or hours TEXT",
@@ -208,16 +207,6 @@ fn faults_form(given: &ArgMatches<'_>) -> Result<Form, Misuse>
         }
     }
     form_with(Form::Faults, given, "FILE")
-}
-
-// Whether options of a text are given to `hours`.
-fn has_text_options(given: &ArgMatches<'_>) -> bool
-    ensures { result ≡ spec.has_text_options (rows_of (found_of given.now)) }
-{
-    is_given(given, "strict")
-        || has_value(given, "day-names")
-        || has_value(given, "holidays")
-        || has_value(given, "years")
 }
 
 // The form of `hours`, by whether its text, its domain and options of the text are given.

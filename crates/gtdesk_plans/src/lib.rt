@@ -10,6 +10,7 @@ mod commands;
 mod forms;
 mod given;
 mod hints;
+mod options;
 mod planner;
 mod plans;
 mod refused;
@@ -18,6 +19,7 @@ pub use commands::{
     ConditionsPlan, DiffPlan, DomainPicturePlan, FaultsPlan, HoursPlan, MendHoursPlan, NowPlan,
     NowView, PicturePlan, PictureSubject, RecordsPlan, SamePlan, WordsPlan, ZonePlan,
 };
+pub use options::HoursOptions;
 pub use planner::plan;
 pub use plans::{Files, OnePlan, Plan};
 pub use refused::LineRefusal;

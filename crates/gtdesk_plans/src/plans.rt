@@ -78,7 +78,7 @@ impl OnePlan {
             OnePlan::SameRows(files) => Files::Several(files.as_slice()),
             OnePlan::Records(plan) => Files::Several(plan.files.as_slice()),
             OnePlan::Mend(file) => Files::One(file.as_str()),
-            OnePlan::DomainOf(plan) => match &plan.holidays {
+            OnePlan::DomainOf(plan) => match &plan.options.holidays {
                 Some(table) => Files::One(table.as_str()),
                 None => Files::None,
             },

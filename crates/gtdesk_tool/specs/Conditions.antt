@@ -1,11 +1,14 @@
 -- What the command `conditions` prints, and how it ends.
 use Rattle.std.specs.Prelude.{◌≡◌, ℕ, ◌+◌, Bool, List, Option, Result, Ok, Err, IsErrOf, IsTrue, OnOk, string_bytes}
-use Rattle.gtd_conditional_file.specs.Run.{HasConverted, TwoPaths}
+use Rattle.gtd_conditional_file.specs.Run.{HasConverted, TwoPaths, lines_of}
+use Rattle.gtd_conditional_file.specs.Warned.{IsWarned}
+use Rattle.gtd_conditional_file.specs.declared.converted.Converted.{Converted}
 use Rattle.gtd_conditional_file.specs.declared.unconverted.Unconverted.{Unconverted}
 use Rattle.gtd_conditional_file.specs.declared.unconverted.Unconverted.TheVariants as run
 use Rattle.gtd_records.specs.declared.fault.RecordFault.TheVariants as records
 use Rattle.gtdesk_plans.specs.declared.commands.conditions.ConditionsPlan.{ConditionsPlan}
-use Rattle.gtdesk_tool.specs.Telling.{IsUntold, Telling, Told}
+use Rattle.gtdesk_tool.specs.LooseHours.{manner_of}
+use Rattle.gtdesk_tool.specs.Telling.{IsUntold, Telling, Told, ToldIfSome}
 use Rattle.gtdesk_tool.specs.declared.ending.Ending.{Ending}
 use Rattle.gtdesk_tool.specs.declared.ending.Ending.TheVariants as ending
 use Rattle.gtdesk_tool.specs.declared.refusal.RunRefusal.{RunRefusal}
@@ -22,10 +25,11 @@ conditions_outcome (Err run.TagsEndless) = Err (refusal.Records records.Endless)
 conditions_outcome (Err (run.WriteFault written)) = Err refusal.Write
 conditions_outcome (Err (run.NoMemory written)) = Err refusal.Memory
 
--- The output for errors took the list of faults, if the answer of the run is one.
-abbrev pub IsListTold : Telling → Result ℕ Unconverted → Type 0
-IsListTold errors (Err (run.Faults list)) = Told errors (string_bytes list)
-IsListTold errors other = IsUntold errors
+-- What the output for errors took for the answer of the run: the warnings, if there are any; or the list of faults.
+abbrev pub IsAnswerTold : Telling → Result Converted Unconverted → Type 0
+IsAnswerTold errors (Ok done) = ToldIfSome errors done.warnings.items
+IsAnswerTold errors (Err (run.Faults list)) = Told errors (string_bytes list)
+IsAnswerTold errors other = IsUntold errors
 
 -- The paths of the files.
 abbrev pub paths_of_plan : ConditionsPlan → TwoPaths
@@ -34,10 +38,11 @@ paths_of_plan plan = record { tags = string_bytes plan.tags; means = string_byte
 -- The run of `conditions` had an answer, and all that the run promises for this answer holds.
 pub record RanConditions (plan : ConditionsPlan) (tags means before after : Option (List ℕ))
     (tags_silent means_silent ended : Bool) (errors : Telling) (result : Result Ending RunRefusal) : Type 0 where
-  pub answer : Result ℕ Unconverted
-  pub outcome : result ≡ conditions_outcome answer
-  pub converted : HasConverted (paths_of_plan plan) means tags before after answer
-  pub told : IsListTold errors answer
+  pub answer : Result Converted Unconverted
+  pub outcome : result ≡ conditions_outcome (lines_of answer)
+  pub converted : HasConverted (manner_of plan.strict plan.names) (paths_of_plan plan) means tags before after (lines_of answer)
+  pub warned : IsWarned (manner_of plan.strict plan.names) (paths_of_plan plan) means tags answer
+  pub told : IsAnswerTold errors answer
   pub whole : OnOk answer (IsTrue ended)
   pub tags_endless : IsErrOf answer run.TagsEndless → IsTrue tags_silent
   pub means_endless : IsErrOf answer run.MeansEndless → IsTrue means_silent

@@ -4,7 +4,7 @@ use Rattle.gtd_hours_holidays.specs.Table.{IsTable}
 use Rattle.gtd_hours_holidays.specs.declared.fault.HolidaysFault.{HolidaysFault}
 use Rattle.gtd_hours_holidays.specs.declared.holidays.Holidays.{Holidays}
 use Rattle.gtd_records.specs.declared.fault.RecordFault.TheVariants as records
-use Rattle.gtdesk_tool.specs.HolidayHours.{IsTableRefusal, table_lines}
+use Rattle.gtdesk_tool.specs.TextHours.{IsTableRefusal, table_lines}
 use Rattle.gtdesk_tool.specs.Telling.{IsUntold, Telling, Told}
 use Rattle.gtdesk_tool.specs.declared.refusal.RunRefusal.{RunRefusal}
 use Rattle.gtdesk_tool.specs.declared.refusal.RunRefusal.TheVariants as refusal

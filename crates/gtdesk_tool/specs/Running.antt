@@ -12,8 +12,8 @@ use Rattle.gtd_report.specs.Run.{UnacceptedFilesPutNothing}
 use Rattle.gtd_picture.specs.Domain.{HasPut, IsDomainSeen}
 use Rattle.gtd_picture.specs.Open.{IsOpenSeen}
 use Rattle.gtdesk_tool.specs.Hours.{IsHoursLine}
-use Rattle.gtdesk_tool.specs.HolidayHours.{RanHoursPlan}
-use Rattle.gtdesk_tool.specs.LooseHours.{IsMendedLine, IsUnread, manner_of}
+use Rattle.gtdesk_tool.specs.TextHours.{RanHoursPlan, manner_in}
+use Rattle.gtdesk_tool.specs.LooseHours.{IsMendedLine, IsUnread}
 use Rattle.gtdesk_tool.specs.Mended.{RanMended}
 use Rattle.gtdesk_tool.specs.Noted.{IsNoted, vehicle_note}
 use Rattle.gtdesk_tool.specs.Telling.{IsUntold, Telling, Told, ToldIfSome}
@@ -33,7 +33,7 @@ use Rattle.gtd_hours_file.specs.Warnings.{IsWarned, lines_of}
 use Rattle.gtd_hours_file.specs.declared.translated.Translated.{Translated}
 use Rattle.gtd_hours_file.specs.declared.untranslated.Untranslated.{Untranslated}
 use Rattle.gtd_hours_file.specs.declared.untranslated.Untranslated.TheVariants as hours
-use Rattle.gtd_hours_known.specs.declared.known.Known.{Known}
+use Rattle.gtd_hours_options.specs.declared.options.Options.{Options}
 use Rattle.gtd_hours_loose.specs.declared.manner.Manner.TheVariants as manner
 use Rattle.gtd_now.specs.Now.{IsNowOf}
 use Rattle.gtd_now.specs.Query.{Query}
@@ -217,13 +217,14 @@ ReadsNone (plan.Picture p) = ⊥
 ReadsNone (plan.SameRows files) = ⊥
 ReadsNone (plan.Records p) = ⊥
 ReadsNone (plan.Mend file) = ⊥
-ReadsNone (plan.DomainOf p) = p.holidays ≡ None
+ReadsNone (plan.DomainOf p) = p.options.holidays ≡ None
 ReadsNone other = ⊤
 
--- What a plan did to the output for the file of this path, by its answer; of a file of hours, where this is known of holidays.
-abbrev pub HasRunPlan : OnePlan → Known → List ℕ → Option (List ℕ) → Option (List ℕ) → Option (List ℕ) → Bool → Bool → Telling
+-- What a plan did to the output for the file of this path, by its answer; of a file of hours, whose texts are read with these
+-- options.
+abbrev pub HasRunPlan : OnePlan → Options → List ℕ → Option (List ℕ) → Option (List ℕ) → Option (List ℕ) → Bool → Bool → Telling
     → Result Ending RunRefusal → Type 0
-HasRunPlan (plan.Now p) known path file old new silent ended errors result =
+HasRunPlan (plan.Now p) options path file old new silent ended errors result =
     RanNow (record {
       vehicle = p.view.vehicle;
       second = p.moment.second.0;
@@ -232,30 +233,30 @@ HasRunPlan (plan.Now p) known path file old new silent ended errors result =
       form = form_of p.view;
       why = p.view.why;
     }) path file old new silent ended errors result
-HasRunPlan (plan.Faults p) known path file old new silent ended errors result =
+HasRunPlan (plan.Faults p) options path file old new silent ended errors result =
     RanFaults path p.asked file old new silent ended result
-HasRunPlan (plan.Picture p) known path file old new silent ended errors result =
+HasRunPlan (plan.Picture p) options path file old new silent ended errors result =
     RanPicture p.subject (string_bytes p.title) file old new silent ended result
-HasRunPlan (plan.DomainPicture p) known path file old new silent ended errors result =
+HasRunPlan (plan.DomainPicture p) options path file old new silent ended errors result =
     RanDomainPicture p.domain (string_bytes p.title) p.year old new ended result
-HasRunPlan (plan.Words p) known path file old new silent ended errors result =
+HasRunPlan (plan.Words p) options path file old new silent ended errors result =
     PutText (λ text. text ≡ words_in p.language (domain_tree p.domain)) (λ r. r ≡ refusal.Memory) old new ended result
-HasRunPlan (plan.HoursOf domain) known path file old new silent ended errors result =
+HasRunPlan (plan.HoursOf domain) options path file old new silent ended errors result =
     PutText (IsHoursLine domain) IsHoursRefusal old new ended result
-HasRunPlan (plan.DomainOf p) known path file old new silent ended errors result =
+HasRunPlan (plan.DomainOf p) options path file old new silent ended errors result =
     RanHoursPlan p path file old new silent ended errors result
-HasRunPlan (plan.Same p) known path file old new silent ended errors result =
+HasRunPlan (plan.Same p) options path file old new silent ended errors result =
     HasCompared p.first p.second p.from.second.0 old new ended result
-HasRunPlan (plan.SameRows files) known path file old new silent ended errors result =
+HasRunPlan (plan.SameRows files) options path file old new silent ended errors result =
     RanRepeats path file old new silent ended result
-HasRunPlan (plan.Records p) known path file old new silent ended errors result =
-    RanRecords (record { manner = manner_of p.strict p.names; known = known }) path file old new silent ended errors result
-HasRunPlan (plan.Mend name) known path file old new silent ended errors result =
+HasRunPlan (plan.Records p) options path file old new silent ended errors result =
+    RanRecords (record { manner = manner_in p.options; options = options }) path file old new silent ended errors result
+HasRunPlan (plan.Mend name) options path file old new silent ended errors result =
     RanMended path file old new silent ended errors result
-HasRunPlan (plan.MendHours p) known path file old new silent ended errors result =
+HasRunPlan (plan.MendHours p) options path file old new silent ended errors result =
     PutText (IsMendedLine p.names (string_bytes p.text)) (IsUnread (manner.Loose p.names) (string_bytes p.text)) old new ended
     result
-HasRunPlan (plan.Show text) known path file old new silent ended errors result =
+HasRunPlan (plan.Show text) options path file old new silent ended errors result =
     PutText (λ t. t ≡ string_bytes text) (λ r. ⊥) old new ended result
 
 -- one more failure of the input exactly if the refusal is that it failed

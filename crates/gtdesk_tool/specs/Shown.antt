@@ -36,6 +36,20 @@ accepted_years = codes "the years in which holidays are known: give them with --
 abbrev pub accepted_cover : List ℕ
 accepted_cover = codes "a table with all holidays of these years, and rows that say so: PH-covered or SH-covered"
 
+-- where rules may be unknown
+abbrev pub accepted_known : List ℕ
+accepted_known = codes "what is known: a rule can be unknown only behind ||, with no other fallback rule behind it"
+
+-- what is to be given where a text has times of other forms
+abbrev pub accepted_end : List ℕ
+accepted_end = codes "the clock time of an open end, at most 24 hours later: give it with --open-end HH:MM"
+
+abbrev pub accepted_point : List ℕ
+accepted_point = codes "how many minutes a point of time lasts: give it with --points N"
+
+abbrev pub accepted_sun : List ℕ
+accepted_sun = codes "the clock time of an event of the sun: give it with --sunrise, --sunset, --dawn or --dusk HH:MM"
+
 -- what is shown of a text of opening hours without a domain
 abbrev pub IsOfHours : List ℕ → NoDomain → RefusalSnippet → Type 0
 IsOfHours text (none.Fault why) shown = IsAt text why.place (of_hours.accepted_hours why.kind) shown
@@ -43,6 +57,10 @@ IsOfHours text (none.Ambiguous place) shown = IsAt text place accepted_once show
 IsOfHours text (none.Holidays place) shown = IsAt text place accepted_table shown
 IsOfHours text (none.Years place) shown = IsAt text place accepted_years shown
 IsOfHours text (none.Uncovered place day) shown = IsAt text place accepted_cover shown
+IsOfHours text (none.Unknown place) shown = IsAt text place accepted_known shown
+IsOfHours text (none.OpenEnd place) shown = IsAt text place accepted_end shown
+IsOfHours text (none.Point place) shown = IsAt text place accepted_point shown
+IsOfHours text (none.SunTime place) shown = IsAt text place accepted_sun shown
 IsOfHours text none.TooMany shown = IsAt text 0 of_hours.accepted_size shown
 
 -- what is shown of a word: of a time domain and of opening hours the text, of any other nothing

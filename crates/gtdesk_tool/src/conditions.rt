@@ -1,22 +1,24 @@
 //! The command `conditions`: the record file of a file of tags of ways.
 
 ghost use Rattle.std.specs.Prelude.{◌≡◌, ◌<◌};
-ghost use Rattle.gtdesk_tool.specs.Conditions.{IsListTold, RanConditions, conditions_outcome, failures_after_means};
+ghost use Rattle.gtd_conditional_file.specs.Run.{lines_of};
+ghost use Rattle.gtdesk_tool.specs.Conditions.{IsAnswerTold, RanConditions, conditions_outcome, failures_after_means};
 ghost use Rattle.gtdesk_tool.specs.Running.{failures_after_read, failures_after_write};
 ghost use Rattle.gtdesk_tool.specs.Telling.{telling};
 
 use crate::ending::Ending;
-use crate::hours_records::tell;
+use crate::hours_records::{tell, tell_if_some};
+use crate::loose_hours::manner_of;
 use crate::refusal::RunRefusal;
-use gtd_conditional_file::{Paths, Unconverted, run_conditions};
+use gtd_conditional_file::{ConditionsReading, Converted, Paths, Unconverted, run_conditions};
 use gtd_devices::{Input, Output};
 use gtd_records::RecordFault;
 use gtdesk_plans::ConditionsPlan;
 use std::alloc::Global;
 
 // The answer of the command, from that of its run.
-fn conditions_outcome(answer: &Result<u64, Unconverted>) -> Result<Ending, RunRefusal>
-    ensures value { result ≡ conditions_outcome answer.now }
+fn conditions_outcome(answer: &Result<Converted, Unconverted>) -> Result<Ending, RunRefusal>
+    ensures value { result ≡ conditions_outcome (lines_of answer.now) }
 {
     match answer {
         Ok(_) => Ok(Ending::Done),
@@ -30,22 +32,23 @@ fn conditions_outcome(answer: &Result<u64, Unconverted>) -> Result<Ending, RunRe
     }
 }
 
-// Tells the list of faults, if the answer of a run is one.
-fn tell_list<E: Output>(errors: &mut E, answer: &Result<u64, Unconverted>)
+// Tells what the answer of a run says besides its record file: warnings of hours, or the list of faults.
+fn tell_answer<E: Output>(errors: &mut E, answer: &Result<Converted, Unconverted>)
     requires tellable { E.failure_count errors.old < u64.MAX }
-    ensures told { IsListTold
+    ensures told { IsAnswerTold
         (telling (E.taken errors.old) (E.taken errors.new) (E.failure_count errors.old) (E.failure_count errors.new)) answer.now }
 {
     match answer {
+        Ok(done) => tell_if_some(errors, done.warnings.as_slice()),
         Err(Unconverted::Faults(list)) => tell(errors, list.as_bytes()),
-        _ => {}
+        Err(_) => {}
     }
 }
 
 /// Carries the plan of `conditions` out: puts the record file that a file of tags of ways stands for by a table of means, both of
-/// which inputs bring, and ends the output. Or it tells the list of all faults on the output for errors, and puts nothing: of
-/// the table, if it has any, and otherwise of the file of tags and its values. If that output fails, a first part of the list
-/// stands, and the answer is the same.
+/// which inputs bring, and ends the output. Then it tells the warnings of the hours in values on the output for errors. Or it
+/// tells the list of all faults there, and puts nothing: of the table, if it has any, and otherwise of the file of tags and its
+/// values. If that output fails, a first part of the warnings or of the list stands, and the answer is the same.
 ///
 /// The file of tags is read if the table has no fault. `Means` says why the input of the table failed, and `Records` why that of
 /// the file of tags did. `Write` is answered exactly if the output failed, which has then taken a first part of what was to be
@@ -71,11 +74,14 @@ pub fn perform_conditions<I: Input, J: Input, O: Output, E: Output>(
     ensures means_faults { J.failure_count means.new ≡ failures_after_means result (J.failure_count means.old) }
     ensures write_faults { O.failure_count output.new ≡ failures_after_write result (O.failure_count output.old) }
 {
-    let paths = Paths {
-        tags: plan.tags.as_str(),
-        means: plan.means.as_str(),
+    let reading = ConditionsReading {
+        paths: Paths {
+            tags: plan.tags.as_str(),
+            means: plan.means.as_str(),
+        },
+        manner: manner_of(plan.strict, plan.names),
     };
-    let answer = run_conditions(alloc, tags, means, output, paths);
-    tell_list(errors, &answer);
+    let answer = run_conditions(alloc, tags, means, output, reading);
+    tell_answer(errors, &answer);
     conditions_outcome(&answer)
 }

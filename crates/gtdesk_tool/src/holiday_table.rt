@@ -4,8 +4,8 @@ ghost use Rattle.std.specs.Prelude.{◌≡◌, ◌<◌, ℕ, Bool, Some};
 ghost use Rattle.gtdesk_tool.specs.HolidayTables.{HasReadTable, HasToldFaults, failures_after_table};
 ghost use Rattle.gtdesk_tool.specs.Telling.{telling};
 
-use crate::holiday_hours::list_faults;
 use crate::refusal::RunRefusal;
+use crate::text_hours::list_faults;
 use gtd_core::limits::MOST_FILE_BYTES;
 use gtd_devices::{Input, InputFault, Output, read_whole};
 use gtd_hours_holidays::{Holidays, HolidaysFault, Unread, read_holidays};

@@ -10,7 +10,6 @@ mod conditions;
 mod diff;
 mod domain_hours;
 mod ending;
-mod holiday_hours;
 mod holiday_table;
 mod hours_records;
 mod line;
@@ -23,18 +22,19 @@ mod refusal;
 mod repeats;
 mod same;
 mod shown;
+mod text_hours;
 mod zone;
 
 pub use ask::perform_ask;
 pub use conditions::perform_conditions;
 pub use diff::perform_diff;
 pub use ending::{Ending, joined};
-pub use gtd_hours_known::Known;
+pub use gtd_hours_options::Options;
 pub use gtd_zones::zone_path;
 pub use gtdesk_plans::{
-    ConditionsPlan, DiffPlan, DomainPicturePlan, FaultsPlan, Files, HoursPlan, LineRefusal,
-    MendHoursPlan, NowPlan, NowView, OnePlan, PicturePlan, PictureSubject, Plan, RecordsPlan,
-    SamePlan, ZonePlan, plan,
+    ConditionsPlan, DiffPlan, DomainPicturePlan, FaultsPlan, Files, HoursOptions, HoursPlan,
+    LineRefusal, MendHoursPlan, NowPlan, NowView, OnePlan, PicturePlan, PictureSubject, Plan,
+    RecordsPlan, SamePlan, ZonePlan, plan,
 };
 pub use gtdesk_words::{Moment, NoDomain, Reason, WordFault, WordName, WordsRefusal};
 pub use holiday_table::read_table;
@@ -42,4 +42,5 @@ pub use line::RefusalLines;
 pub use performer::{Turn, perform};
 pub use refusal::{Refusal, RunRefusal, refused_file, refused_table};
 pub use shown::word_snippet;
+pub use text_hours::{no_options, options_with};
 pub use zone::{moment_in_zone, no_zone};

@@ -107,6 +107,10 @@ impl Display for TextLine {
                 let day = DayText(day);
                 write!(f, "Uncovered at {place}: {day}")
             }
+            NoDomain::Unknown { place } => write!(f, "Unknown at {place}"),
+            NoDomain::OpenEnd { place } => write!(f, "OpenEnd at {place}"),
+            NoDomain::Point { place } => write!(f, "Point at {place}"),
+            NoDomain::SunTime { place } => write!(f, "SunTime at {place}"),
             NoDomain::TooMany => write!(f, "TooMany at 0"),
         }
     }
@@ -130,6 +134,12 @@ fn word_name(word: WordName) -> &'static str
         WordName::Language => "LANGUAGE",
         WordName::Names => "NAMES",
         WordName::Years => "YEARS",
+        WordName::OpenEnd => "OPEN-END",
+        WordName::Points => "POINTS",
+        WordName::Sunrise => "SUNRISE",
+        WordName::Sunset => "SUNSET",
+        WordName::Dawn => "DAWN",
+        WordName::Dusk => "DUSK",
         WordName::Rule => "RULE",
         WordName::Day => "DAY",
         WordName::Zone => "ZONE",
@@ -161,6 +171,9 @@ impl Display for ReasonText {
             Reason::Language => write!(f, "not en, de or fr"),
             Reason::DayNames => write!(f, "not de"),
             Reason::Years => write!(f, "{NO_YEARS}"),
+            Reason::OpenEnd => write!(f, "not a clock time HH:MM from 00:00 to 48:00"),
+            Reason::Points => write!(f, "not a number from 1 to 1440"),
+            Reason::Clock => write!(f, "not a clock time HH:MM from 00:00 to 24:00"),
             Reason::Rule => write!(f, "{NO_RULES}"),
             Reason::Day => write!(f, "not from 1901-01-01 to 2699-12-31"),
             Reason::Zone => write!(f, "not the name of a time zone"),

@@ -10,7 +10,6 @@ ghost use Rattle.gtdesk_tool.specs.Telling.{telling};
 
 use crate::domain_hours::print_hours_of;
 use crate::ending::Ending;
-use crate::holiday_hours::{HoursTurn, print_hours};
 use crate::hours_records::{RecordsTurn, print_records};
 use crate::loose_hours::{manner_of, print_mended_hours};
 use crate::mended::print_mended;
@@ -19,10 +18,11 @@ use crate::picture::{print_domain, print_picture};
 use crate::refusal::RunRefusal;
 use crate::repeats::print_repeats;
 use crate::same::print_comparison;
+use crate::text_hours::{HoursTurn, print_hours};
 use gtd_devices::{Input, Output};
 use gtd_faults::{ListFault, run_faults};
 use gtd_hours_file::HoursReading;
-use gtd_hours_known::Known;
+use gtd_hours_options::Options;
 use gtd_now::Asked;
 use gtd_records::RecordFault;
 use gtd_report::{Progress, RunFault, finish, put_line};
@@ -153,8 +153,8 @@ pub struct Turn<'a> {
     pub plan: &'a OnePlan,
     /// The path; any, if the plan reads no file.
     pub path: &'a str,
-    /// What is known of holidays, if the file is one of opening hours.
-    pub known: &'a Known,
+    /// The options with which texts are read, if the file is one of opening hours.
+    pub options: &'a Options,
 }
 
 /// Carries a plan out for one of its files, whose bytes the input brings: puts what it asks for, and ends the output. If the plan
@@ -177,7 +177,7 @@ pub fn perform<I: Input, O: Output, E: Output>(
     requires writable { O.failure_count output.old < u64.MAX }
     requires tellable { E.failure_count errors.old < u64.MAX }
     // What the output took, by the answer; of some plans, what the output for errors took, too.
-    ensures ran { HasRunPlan turn.entry.plan.now turn.entry.known.now turn.entry.path.now (I.to_come input.old)
+    ensures ran { HasRunPlan turn.entry.plan.now turn.entry.options.now turn.entry.path.now (I.to_come input.old)
         (O.taken output.old) (O.taken output.new) (I.may_fall_silent input.old) (O.is_ended output.new)
         (telling (E.taken errors.old) (E.taken errors.new) (E.failure_count errors.old) (E.failure_count errors.new)) result }
     // Each failure of the input or of the output is told, and nothing else is told as one.
@@ -228,8 +228,8 @@ pub fn perform<I: Input, O: Output, E: Output>(
         OnePlan::SameRows(_) => print_repeats(alloc, input, output, path),
         OnePlan::Records(plan) => {
             let reading = HoursReading {
-                manner: manner_of(plan.strict, plan.names),
-                known: turn.known,
+                manner: manner_of(plan.options.strict, plan.options.names),
+                options: turn.options,
             };
             print_records(alloc, input, output, errors, RecordsTurn { path, reading })
         }

@@ -19,6 +19,19 @@ const YEARS: &str = "the years in which holidays are known: give them with --yea
 const COVER: &str =
     "a table with all holidays of these years, and rows that say so: PH-covered or SH-covered";
 
+// Where rules may be unknown.
+const KNOWN: &str =
+    "what is known: a rule can be unknown only behind ||, with no other fallback rule behind it";
+
+// What is to be given where a text has times of other forms.
+const END: &str =
+    "the clock time of an open end, at most 24 hours later: give it with --open-end HH:MM";
+
+const POINT: &str = "how many minutes a point of time lasts: give it with --points N";
+
+const SUN: &str =
+    "the clock time of an event of the sun: give it with --sunrise, --sunset, --dawn or --dusk HH:MM";
+
 // Nothing, of whatever text.
 fn nothing(_text: &str) -> RefusalSnippet<'_>
     ensures { IsNothing result }
@@ -49,6 +62,10 @@ fn of_hours(text: &str, why: NoDomain) -> RefusalSnippet<'_>
         NoDomain::Holidays { place } => expecting(text, place, TABLE),
         NoDomain::Years { place } => expecting(text, place, YEARS),
         NoDomain::Uncovered { place, .. } => expecting(text, place, COVER),
+        NoDomain::Unknown { place } => expecting(text, place, KNOWN),
+        NoDomain::OpenEnd { place } => expecting(text, place, END),
+        NoDomain::Point { place } => expecting(text, place, POINT),
+        NoDomain::SunTime { place } => expecting(text, place, SUN),
         NoDomain::TooMany => too_many_snippet(text),
     }
 }

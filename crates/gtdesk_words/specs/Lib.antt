@@ -1,8 +1,10 @@
 pub mod Text
 pub mod Words
 pub mod YearsWords
+pub mod ClockTexts
 pub mod HoursWords
 pub mod Readings
+pub mod ClockWords
 pub mod Statuses
 pub mod facts
 pub use Rattle.gtd_core.specs.Seconds

@@ -12,6 +12,7 @@ use Rattle.gtd_moments.specs.Moments.{moment_in}
 use Rattle.gtd_records.specs.Columns.{direction_of, number_of}
 use Rattle.gtd_text.specs.Reading.{HasNoFault, IsFault}
 use Rattle.gtd_zones.specs.Zones.{is_zone_name}
+use Rattle.gtdesk_words.specs.ClockTexts.{event_in, open_end_in, points_in}
 use Rattle.gtdesk_words.specs.Text.{Text}
 use Rattle.gtdesk_words.specs.HoursWords.{HasDomain, IsNoDomainOf}
 use Rattle.gtd_mistakes.specs.declared.rule.Rule.{Rule}
@@ -28,7 +29,8 @@ use Rattle.gtdesk_words.specs.declared.refusal.WordsRefusal.TheVariants as refus
 
 -- What a word has to be: the number of an element, or such numbers with commas between them; a direction; a vehicle type; a year;
 -- a moment; a date; a date that makes a horizon with the date before it; a time domain; opening hours that have one; a language;
--- a language of weekdays; years in which holidays are known; rules; a day; the name of a time zone.
+-- a language of weekdays; years in which holidays are known; the minute of an open end; how long a point of time lasts; the
+-- minute of an event of the sun; rules; a day; the name of a time zone.
 pub data Reading : Type 0 where
   element : (text : Text) → Reading
   elements : (text : Text) → Reading
@@ -43,6 +45,9 @@ pub data Reading : Type 0 where
   language : (text : Text) → Reading
   day_names : (text : Text) → Reading
   years : (text : Text) → Reading
+  open_end : (text : Text) → Reading
+  points : (text : Text) → Reading
+  event : (text : Text) → Reading
   rules : (text : Text) → Reading
   day : (text : Text) → Reading
   zone : (text : Text) → Reading
@@ -62,6 +67,9 @@ Stands (Reading.hours text) = HasDomain text
 Stands (Reading.language text) = IsSome (language_in text)
 Stands (Reading.day_names text) = IsSome (day_names_in text)
 Stands (Reading.years text) = (years : KnownYears) × IsYearsWord text years
+Stands (Reading.open_end text) = IsSome (open_end_in text)
+Stands (Reading.points text) = IsSome (points_in text)
+Stands (Reading.event text) = IsSome (event_in text)
 Stands (Reading.rules text) = (rules : List Rule) × AreRules (parts_of text) rules
 Stands (Reading.day text) = (days : Horizon) × IsDayWord text days
 Stands (Reading.zone text) = is_zone_name text ≡ true
@@ -83,6 +91,9 @@ IsReason (Reading.hours text) why = (none : NoDomain) × (why ≡ reason.Hours n
 IsReason (Reading.language text) why = (why ≡ reason.Language) × (language_in text ≡ None)
 IsReason (Reading.day_names text) why = (why ≡ reason.DayNames) × (day_names_in text ≡ None)
 IsReason (Reading.years text) why = (why ≡ reason.Years) × AreNoYears text
+IsReason (Reading.open_end text) why = (why ≡ reason.OpenEnd) × (open_end_in text ≡ None)
+IsReason (Reading.points text) why = (why ≡ reason.Points) × (points_in text ≡ None)
+IsReason (Reading.event text) why = (why ≡ reason.Clock) × (event_in text ≡ None)
 IsReason (Reading.rules text) why = (why ≡ reason.Rule) × HasNoRule (parts_of text)
 IsReason (Reading.zone text) why = (why ≡ reason.Zone) × (is_zone_name text ≡ false)
 IsReason (Reading.day text) why =

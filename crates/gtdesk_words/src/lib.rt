@@ -4,11 +4,13 @@
 //! their command.
 #![tactic(auto)]
 
+mod clocks;
 mod hours;
 mod moment;
 mod refusal;
 mod words;
 
+pub use clocks::{ClockWords, clocks_of};
 pub use hours::hours_domain;
 pub use moment::Moment;
 pub use refusal::{NoDomain, Reason, WordFault, WordName, WordsRefusal};

@@ -36,6 +36,18 @@ pub enum WordName {
     Names,
     /// `YEARS`
     Years,
+    /// `OPEN-END`
+    OpenEnd,
+    /// `POINTS`
+    Points,
+    /// `SUNRISE`
+    Sunrise,
+    /// `SUNSET`
+    Sunset,
+    /// `DAWN`
+    Dawn,
+    /// `DUSK`
+    Dusk,
     /// `RULE`
     Rule,
     /// `DAY`
@@ -71,6 +83,26 @@ pub enum NoDomain {
         /// The first day of the years that the table does not cover, from 1970-01-01 on.
         day: i64,
     },
+    /// The text says nowhere when it is open. The same holds.
+    Unknown {
+        /// The number of bytes before its rule.
+        place: usize,
+    },
+    /// The text has an open end, for which no clock time is given. The same holds.
+    OpenEnd {
+        /// The number of bytes before it.
+        place: usize,
+    },
+    /// The text has a point of time, and it is not given how long it lasts. The same holds.
+    Point {
+        /// The number of bytes before it.
+        place: usize,
+    },
+    /// The text has an event of the sun, for which no clock time is given. The same holds.
+    SunTime {
+        /// The number of bytes before it.
+        place: usize,
+    },
     /// The domain would have more than 128 basic domains.
     TooMany,
 }
@@ -102,6 +134,12 @@ pub enum Reason {
     DayNames,
     /// It is not a year from 1802 to 2797, or two of them with `-` between them, which make at most 98 years.
     Years,
+    /// It is not a clock time from 00:00 to 48:00.
+    OpenEnd,
+    /// It is not a number from 1 to 1440 without leading zeros.
+    Points,
+    /// It is not a clock time from 00:00 to 24:00.
+    Clock,
     /// It is not the name of a rule, or not such names with commas between them.
     Rule,
     /// It is a date, but none from 1901-01-01 to 2699-12-31.

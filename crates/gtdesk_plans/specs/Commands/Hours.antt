@@ -1,14 +1,13 @@
--- The command `hours [--strict] [--day-names NAMES] [--holidays FILE] [--years YEARS] TEXT`, or `hours --of DOMAIN`.
-use Rattle.std.specs.Prelude.{◌≡◌, ◌++◌, [], ◌∷◌, List, Option, Some, None, IsSomeAnd, codes, option_map, string_bytes}
+-- The command `hours [OPTIONS] TEXT`, with the options of texts, or `hours --of DOMAIN`.
+use Rattle.std.specs.Prelude.{◌≡◌, ◌++◌, [], ◌∷◌, List, Option, Some, None, IsSomeAnd, codes, string_bytes}
 use Rattle.clap.specs.Simple.{App}
-use Rattle.clap.specs.Walk.{Row, first_of}
+use Rattle.clap.specs.Walk.{Row}
 use Rattle.gtd_core.specs.declared.domain.Domain.{Domain}
-use Rattle.gtdesk_plans.specs.Arguments.{command_of, flag_rule, free_word_rule, option_rule}
-use Rattle.gtdesk_plans.specs.DayNames.{AreDayNames, day_names_rule, day_names_words}
-use Rattle.gtdesk_words.specs.Readings.{Reading, Word, if_given, word_as}
-use Rattle.gtdesk_plans.specs.Rows.{is_given, text_of}
+use Rattle.gtdesk_plans.specs.Arguments.{command_of, free_word_rule, option_rule}
+use Rattle.gtdesk_words.specs.Readings.{Reading, Word, word_as}
+use Rattle.gtdesk_plans.specs.Rows.{text_of}
 use Rattle.gtdesk_words.specs.Words.{IsReadDomain}
-use Rattle.gtdesk_words.specs.YearsWords.{AreYearsIn}
+use Rattle.gtdesk_plans.specs.TextOptions.{AreOptions, option_rules, option_words}
 use Rattle.gtdesk_plans.specs.declared.commands.hours.HoursPlan.{HoursPlan}
 use Rattle.gtdesk_plans.specs.declared.plans.OnePlan.TheVariants as one
 use Rattle.gtdesk_plans.specs.declared.plans.Plan.{Plan}
@@ -18,20 +17,15 @@ use Rattle.gtdesk_words.specs.declared.refusal.WordName.TheVariants as name
 abbrev pub app : App
 app =
     command_of (codes "hours")
-    (flag_rule (codes "strict") ∷ day_names_rule ∷ option_rule (codes "holidays") ∷ option_rule (codes "years")
-    ∷ free_word_rule (codes "TEXT") ∷ option_rule (codes "of") ∷ [])
+    (option_rules ++ (free_word_rule (codes "TEXT") ∷ option_rule (codes "of") ∷ []))
 
 -- The text is read when the plan is carried out, and so is the table of holidays.
 abbrev pub words : List Row → List Word
-words rows =
-    day_names_words rows ++ if_given (first_of (codes "years") rows) (λ text. word_as name.Years (Reading.years text))
+words rows = option_words rows
 
 pub record IsTextPlan (rows : List Row) (p : HoursPlan) : Type 0 where
   pub text : string_bytes p.text ≡ text_of (codes "TEXT") rows
-  pub strict : p.strict ≡ is_given (codes "strict") rows
-  pub names : AreDayNames rows p.names
-  pub holidays : option_map string_bytes p.holidays ≡ first_of (codes "holidays") rows
-  pub years : AreYearsIn (first_of (codes "years") rows) p.years
+  pub options : AreOptions rows p.options
 
 abbrev pub text_plan_in : Plan → Option HoursPlan
 text_plan_in (plan.One (one.DomainOf p)) = Some p

@@ -7,11 +7,12 @@ ghost use Rattle.gtdesk_plans.specs.Arguments.{Builds};
 ghost use Rattle.gtdesk_plans.specs.Commands.Conditions.{Asks, app, words};
 ghost use Rattle.gtdesk_words.specs.Readings.{AreStopped};
 
-use crate::arguments::{Argument, with_arguments};
-use crate::given::text;
+use crate::arguments::{Argument, DAY_NAMES, with_arguments};
+use crate::given::{is_given, text, value};
 use crate::plans::Plan;
 use clap::{ArgMatches, Command};
-use gtdesk_words::WordsRefusal;
+use gtd_hours_loose_tokens::DayNames;
+use gtdesk_words::{WordsRefusal, day_names_of};
 use std::alloc::{AllocError, Global};
 
 /// A file of tags of ways, and a table of what their names mean.
@@ -21,6 +22,10 @@ pub struct ConditionsPlan {
     pub tags: String,
     /// The path of the table of means, or `-` for standard input.
     pub means: String,
+    /// Whether opening hours in a condition that are written loosely are at fault.
+    pub strict: bool,
+    /// What `Di`, `Do` and `So` are where opening hours are written loosely.
+    pub names: DayNames,
 }
 
 // What help says at the end.
@@ -32,8 +37,13 @@ Example:
 const ABOUT: &str =
     "Print the record file of the tags of ways that say, with conditions or without, who may use them and when";
 
-// Its words.
-const ARGUMENTS: [Argument; 2] = [
+// Its words and options.
+const ARGUMENTS: [Argument; 4] = [
+    Argument::Flag {
+        name: "strict",
+        help: "Take opening hours that are written loosely as faults",
+    },
+    DAY_NAMES,
     Argument::Word {
         name: "TAGS",
         help: "The file of tags, with the columns element, key and value",
@@ -58,12 +68,22 @@ pub(crate) fn command<'a>(alloc: Global) -> Result<Command<'a>, AllocError>
 pub(crate) fn plan(alloc: Global, given: &ArgMatches<'_>) -> Result<Plan, WordsRefusal>
     ensures { MatchResult result (Asks (rows_of (found_of given.now))) (AreStopped (words (rows_of (found_of given.now)))) }
 {
+    let names = match day_names_of(value(given, "day-names")) {
+        Ok(names) => names,
+        Err(refusal) => return Err(refusal),
+    };
+    let strict = is_given(given, "strict");
     let tags = match String::from_str(alloc, text(given, "TAGS")) {
         Ok(tags) => tags,
         Err(_) => return Err(WordsRefusal::Memory),
     };
     match String::from_str(alloc, text(given, "MEANS")) {
-        Ok(means) => Ok(Plan::Conditions(ConditionsPlan { tags, means })),
+        Ok(means) => Ok(Plan::Conditions(ConditionsPlan {
+            tags,
+            means,
+            strict,
+            names,
+        })),
         Err(_) => Err(WordsRefusal::Memory),
     }
 }

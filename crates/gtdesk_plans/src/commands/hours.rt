@@ -7,13 +7,15 @@ ghost use Rattle.gtdesk_plans.specs.Arguments.{Builds};
 ghost use Rattle.gtdesk_plans.specs.Commands.Hours.{Asks, AsksOf, app, words, words_of};
 ghost use Rattle.gtdesk_words.specs.Readings.{AreStopped};
 
-use crate::arguments::{Argument, DAY_NAMES, with_arguments};
-use crate::given::{is_given, kept_value, text, value};
+use crate::arguments::{
+    Argument, DAWN, DAY_NAMES, DUSK, HOLIDAYS, OPEN_END, POINTS, SUNRISE, SUNSET, YEARS,
+    with_arguments,
+};
+use crate::given::text;
+use crate::options::{HoursOptions, options_of};
 use crate::plans::{OnePlan, Plan};
 use clap::{ArgMatches, Command};
-use gtd_hours_holidays::KnownYears;
-use gtd_hours_loose_tokens::DayNames;
-use gtdesk_words::{WordName, WordsRefusal, day_names_of, domain_of, years_of};
+use gtdesk_words::{WordName, WordsRefusal, domain_of};
 use std::alloc::{AllocError, Global};
 
 /// A text of opening hours.
@@ -21,14 +23,8 @@ use std::alloc::{AllocError, Global};
 pub struct HoursPlan {
     /// The text.
     pub text: String,
-    /// Whether it is refused if it is written loosely.
-    pub strict: bool,
-    /// What `Di`, `Do` and `So` are where it is written loosely.
-    pub names: DayNames,
-    /// The path of the table of holidays, or `-` for standard input, if one is given.
-    pub holidays: Option<String>,
-    /// The years in which holidays are known, if they are given.
-    pub years: Option<KnownYears>,
+    /// How it is read.
+    pub options: HoursOptions,
 }
 
 // What help says at the end.
@@ -43,22 +39,20 @@ const ABOUT: &str =
     or opening hours that are open at exactly the seconds of a time domain";
 
 // Its words and options.
-const ARGUMENTS: [Argument; 6] = [
+const ARGUMENTS: [Argument; 12] = [
     Argument::Flag {
         name: "strict",
         help: "Refuse a text that is written loosely",
     },
     DAY_NAMES,
-    Argument::Option {
-        name: "holidays",
-        value: "FILE",
-        help: "The table of holidays, for PH and SH; or - for standard input",
-    },
-    Argument::Option {
-        name: "years",
-        value: "YEARS",
-        help: "The years in which holidays are known: F-L or F",
-    },
+    HOLIDAYS,
+    YEARS,
+    OPEN_END,
+    POINTS,
+    SUNRISE,
+    SUNSET,
+    DAWN,
+    DUSK,
     Argument::FreeWord {
         name: "TEXT",
         help: "The opening hours",
@@ -85,27 +79,12 @@ pub(crate) fn command<'a>(alloc: Global) -> Result<Command<'a>, AllocError>
 pub(crate) fn plan(alloc: Global, given: &ArgMatches<'_>) -> Result<Plan, WordsRefusal>
     ensures { MatchResult result (Asks (rows_of (found_of given.now))) (AreStopped (words (rows_of (found_of given.now)))) }
 {
-    let names = match day_names_of(value(given, "day-names")) {
-        Ok(names) => names,
+    let options = match options_of(alloc, given) {
+        Ok(options) => options,
         Err(refusal) => return Err(refusal),
-    };
-    let years = match years_of(value(given, "years")) {
-        Ok(years) => years,
-        Err(refusal) => return Err(refusal),
-    };
-    let strict = is_given(given, "strict");
-    let holidays = match kept_value(alloc, given, "holidays") {
-        Ok(path) => path,
-        Err(_) => return Err(WordsRefusal::Memory),
     };
     match String::from_str(alloc, text(given, "TEXT")) {
-        Ok(text) => Ok(Plan::One(OnePlan::DomainOf(HoursPlan {
-            text,
-            strict,
-            names,
-            holidays,
-            years,
-        }))),
+        Ok(text) => Ok(Plan::One(OnePlan::DomainOf(HoursPlan { text, options }))),
         Err(_) => Err(WordsRefusal::Memory),
     }
 }

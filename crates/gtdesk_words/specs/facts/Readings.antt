@@ -19,6 +19,7 @@ use Rattle.gtd_moments.specs.Moments.{moment_in}
 use Rattle.gtd_records.specs.Columns.{direction_of, number_of}
 use Rattle.gtd_text.specs.facts.ReadingLaws.{one_fault}
 use Rattle.gtd_warnings.specs.Days.{AreDaysFrom}
+use Rattle.gtdesk_words.specs.ClockTexts.{event_in, open_end_in, points_in}
 use Rattle.gtdesk_words.specs.Text.{Text}
 use Rattle.gtdesk_words.specs.HoursWords.{HasDomain, IsNoDomainOf}
 use Rattle.gtdesk_words.specs.Readings.{AllStand, AreStopped, IsFaultOf, IsFirstFault, IsReason, Reading, Stands, Word}
@@ -117,6 +118,10 @@ no_reason text has (none.Ambiguous place) is = is
 no_reason text has (none.Holidays place) is = is
 no_reason text has (none.Years place) is = is
 no_reason text has (none.Uncovered place day) is = is
+no_reason text has (none.Unknown place) is = is
+no_reason text has (none.OpenEnd place) is = is
+no_reason text has (none.Point place) is = is
+no_reason text has (none.SunTime place) is = is
 no_reason text has none.TooMany is = fits_or_not text has.0 is.0 has.1 is.1 has.2 is.2
 
 -- a text has one reason
@@ -129,14 +134,26 @@ one_reason text (none.Ambiguous place) b h k = absurd h
 one_reason text (none.Holidays place) b h k = absurd h
 one_reason text (none.Years place) b h k = absurd h
 one_reason text (none.Uncovered place day) b h k = absurd h
+one_reason text (none.Unknown place) b h k = absurd h
+one_reason text (none.OpenEnd place) b h k = absurd h
+one_reason text (none.Point place) b h k = absurd h
+one_reason text (none.SunTime place) b h k = absurd h
 one_reason text (none.Fault a) (none.Ambiguous place) h k = absurd k
 one_reason text (none.Fault a) (none.Holidays place) h k = absurd k
 one_reason text (none.Fault a) (none.Years place) h k = absurd k
 one_reason text (none.Fault a) (none.Uncovered place day) h k = absurd k
+one_reason text (none.Fault a) (none.Unknown place) h k = absurd k
+one_reason text (none.Fault a) (none.OpenEnd place) h k = absurd k
+one_reason text (none.Fault a) (none.Point place) h k = absurd k
+one_reason text (none.Fault a) (none.SunTime place) h k = absurd k
 one_reason text none.TooMany (none.Ambiguous place) h k = absurd k
 one_reason text none.TooMany (none.Holidays place) h k = absurd k
 one_reason text none.TooMany (none.Years place) h k = absurd k
 one_reason text none.TooMany (none.Uncovered place day) h k = absurd k
+one_reason text none.TooMany (none.Unknown place) h k = absurd k
+one_reason text none.TooMany (none.OpenEnd place) h k = absurd k
+one_reason text none.TooMany (none.Point place) h k = absurd k
+one_reason text none.TooMany (none.SunTime place) h k = absurd k
 
 -- ---- rules and days
 
@@ -173,6 +190,9 @@ stands_or_not (Reading.element text) why s h = some_read (number_of text) s h.1
 stands_or_not (Reading.language text) why s h = some_read (language_in text) s h.1
 stands_or_not (Reading.day_names text) why s h = some_read (day_names_in text) s h.1
 stands_or_not (Reading.years text) why s h = h.1 s.0.first s.0.last s.1 s.0.in_range
+stands_or_not (Reading.open_end text) why s h = some_read (open_end_in text) s h.1
+stands_or_not (Reading.points text) why s h = some_read (points_in text) s h.1
+stands_or_not (Reading.event text) why s h = some_read (event_in text) s h.1
 stands_or_not (Reading.elements text) why s h = some_read (numbers_of (parts_of text)) s h.1
 stands_or_not (Reading.direction text) why s h = some_read (direction_of text) s h.1
 stands_or_not (Reading.vehicle text) why s h = h.1 s.0 s.1.0 s.1.1
@@ -191,6 +211,9 @@ one_why (Reading.element text) a b h k = h.0 ∙ sym k.0
 one_why (Reading.language text) a b h k = h.0 ∙ sym k.0
 one_why (Reading.day_names text) a b h k = h.0 ∙ sym k.0
 one_why (Reading.years text) a b h k = h.0 ∙ sym k.0
+one_why (Reading.open_end text) a b h k = h.0 ∙ sym k.0
+one_why (Reading.points text) a b h k = h.0 ∙ sym k.0
+one_why (Reading.event text) a b h k = h.0 ∙ sym k.0
 one_why (Reading.elements text) a b h k = h.0 ∙ sym k.0
 one_why (Reading.direction text) a b h k = h.0 ∙ sym k.0
 one_why (Reading.vehicle text) a b h k = h.0 ∙ sym k.0
@@ -253,6 +276,11 @@ stopped_past n words refusal.Memory s h = h
 pub stopped_at : (n : ℕ) (words : List Word) (r : WordsRefusal) → AllStand (take n words)
     → AreStopped (take 1 (drop n words)) r → AreStopped words r
 stopped_at n words r s h = stopped_past n words r s (stopped_upto 1 (drop n words) r h)
+
+-- two lists of words of which each stands for something
+pub both_stand : (words others : List Word) → AllStand words → AllStand others → AllStand (words ++ others)
+both_stand [] others s t = t
+both_stand (word ∷ words) others s t = (s.0, both_stand words others s.1 t)
 
 -- a refusal of the first of two lists of words, and of the second where all of the first stand for something
 first_in_front : (words others : List Word) (fault : WordFault) → IsFirstFault words fault → IsFirstFault (words ++ others) fault

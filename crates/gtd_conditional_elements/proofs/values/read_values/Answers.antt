@@ -14,5 +14,6 @@ loop-tag-preserved c =
     let next : take (at + 1) tags ≡ take at tags ++ tag ∷ [] =
     take_more tags at tag c.loop-tag-test.true ∙ ap (λ (x : Tag). take at tags ++ x ∷ []) (sym c.tag-item.is) in
     rw (next, added.2, added.3)
-    (values_more c.args.means.now.rows.items (take at tags) tag c.loop-tag.found.sound.items c.loop-tag.found.faults.items
+    (values_more c.args.manner c.args.means.now.rows.items (take at tags) tag c.loop-tag.found.sound.items
+    c.loop-tag.found.faults.items
     added.0 added.1 c.loop-tag.invariant)

@@ -5,4 +5,4 @@ use Rattle.gtd_conditional_elements.proofs.values.read_values.Given as goal
 -- what the tags so far say
 abbrev pub invariant-loop-tag : goal.invariant-loop-tag
 invariant-loop-tag l =
-    AreValues l.means.rows.items (take l.tag-index l.tags) l.found.sound.items l.found.faults.items
+    AreValues l.manner l.means.rows.items (take l.tag-index l.tags) l.found.sound.items l.found.faults.items

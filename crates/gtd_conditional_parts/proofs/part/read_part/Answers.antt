@@ -11,7 +11,7 @@ use Rattle.gtd_conditional_parts.proofs.part.read_part.Goals as goal
 pub returns-in-None-clause-fault : goal.returns-in-None-clause-fault
 returns-in-None-clause-fault c =
     name c.at_of-at.result c.at_of-at.ensures.place
-    (sym (c.in-None.ensures.said ∙ ap (said_of c.args.subject c.args.means.now.rows.items) c.trimmed.ensures.text))
+    (sym (c.in-None.ensures.said ∙ ap (said_of c.args.by.subject c.args.by.means.now.rows.items) c.trimmed.ensures.text))
     (ap (λ (k : ℕ). fault.Value (c.args.place + k)) c.front_spaces.ensures.count)
 
 pub returns-in-Ok-clause-part : goal.returns-in-Ok-clause-part
@@ -19,20 +19,23 @@ returns-in-Ok-clause-part c = record {
   at = c.at_of-at.result;
   has = c.at_of-at.ensures.place;
   said =
-      sym (c.in-Some.ensures.said ∙ ap (said_of c.args.subject c.args.means.now.rows.items) c.trimmed.ensures.text);
+      sym (c.in-Some.ensures.said ∙ ap (said_of c.args.by.subject c.args.by.means.now.rows.items) c.trimmed.ensures.text);
   terms =
       subst
-      (λ (text : List ℕ). AreConditions c.args.means.now.rows.items (c.args.place + (c.at_of-at.result + 1)) text
+      (λ (text : List ℕ). AreConditions c.args.by.manner c.args.by.means.now.rows.items
+      (c.args.place + (c.at_of-at.result + 1)) text
       c.in-Ok.terms.items) c.text_from.ensures.text c.in-Ok.ensures.terms;
 }
 
 pub returns-in-Err-clause-fault : goal.returns-in-Err-clause-fault
 returns-in-Err-clause-fault c =
-    let rows = c.args.means.now.rows.items in
+    let rows = c.args.by.means.now.rows.items in
     let stops =
     subst
-    (λ (text : List ℕ). IsConditionsStop rows (c.args.place + (c.at_of-at.result + 1)) text c.in-Err.why)
+    (λ (text : List ℕ). IsConditionsStop c.args.by.manner rows (c.args.place + (c.at_of-at.result + 1)) text c.in-Err.why)
     c.text_from.ensures.text c.in-Err.ensures.fault in
-    subst (λ (why : UnreadValue). IsPartStop c.args.subject rows c.args.place c.args.part.now why) (sym c.unread.ensures)
-    (part_stop c.args.subject rows c.args.place c.args.part.now c.at_of-at.result c.at_of-at.ensures.place c.in-Some.said
-    (sym (c.in-Some.ensures.said ∙ ap (said_of c.args.subject rows) c.trimmed.ensures.text)) c.in-Err.why stops)
+    subst (λ (why : UnreadValue). IsPartStop c.args.by.subject c.args.by.manner rows c.args.place c.args.part.now why)
+    (sym c.unread.ensures)
+    (part_stop c.args.by.subject c.args.by.manner rows c.args.place c.args.part.now c.at_of-at.result c.at_of-at.ensures.place
+    c.in-Some.said
+    (sym (c.in-Some.ensures.said ∙ ap (said_of c.args.by.subject rows) c.trimmed.ensures.text)) c.in-Err.why stops)

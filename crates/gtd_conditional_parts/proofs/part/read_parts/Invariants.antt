@@ -9,8 +9,8 @@ abbrev pub invariant-loop-part : goal.invariant-loop-part
 invariant-loop-part l = record {
   fits : l.at + length l.rest ≤ length l.text;
   have : (found : ℕ) → LacksAt l.at l.rest found → ⊥;
-  goes : GoesOn l.subject l.means.rows.items 0 l.text l.parts.items l.at l.rest;
-  fails : FailsOn l.subject l.means.rows.items 0 l.text l.at l.rest;
+  goes : GoesOn l.fn.subject l.fn.manner l.means.rows.items 0 l.text l.parts.items l.at l.rest;
+  fails : FailsOn l.fn.subject l.fn.manner l.means.rows.items 0 l.text l.at l.rest;
 }
 
 abbrev pub decreases-loop-part : goal.decreases-loop-part

@@ -9,5 +9,5 @@ returns-in-Some-clause-fault c = no_at c.in-Some.place c.in-Some.ensures.first r
 
 pub returns-in-Err-clause-fault : goal.returns-in-Err-clause-fault
 returns-in-Err-clause-fault c =
-    body_stop c.args.subject c.args.means.now.rows.items c.args.text.now c.in-None.ensures.first c.in-Err.why
+    body_stop c.args.subject c.args.manner c.args.means.now.rows.items c.args.text.now c.in-None.ensures.first c.in-Err.why
     c.in-Err.ensures.fault

@@ -16,7 +16,7 @@ pub returns-in-Some-clause-terms : goal.returns-in-Some-clause-terms
 returns-in-Some-clause-terms c =
     subst
     (λ (o : Option (List ℕ)). IfOk c.read_terms.result
-    (λ terms. AreTermsIn c.args.means.now.rows.items o c.args.place c.args.text.now terms.items))
+    (λ terms. AreTermsIn c.args.manner c.args.means.now.rows.items o c.args.place c.args.text.now terms.items))
     (c.in-Some.ensures.inside ∙ ap enclosed c.trimmed.ensures.text)
     (rw c.front_spaces.ensures.count at c.read_terms.ensures.terms)
 
@@ -24,7 +24,7 @@ pub returns-in-Some-clause-fault : goal.returns-in-Some-clause-fault
 returns-in-Some-clause-fault c =
     subst
     (λ (o : Option (List ℕ)). IfErr c.read_terms.result
-    (λ why. IsTermsStopIn c.args.means.now.rows.items o c.args.place c.args.text.now why))
+    (λ why. IsTermsStopIn c.args.manner c.args.means.now.rows.items o c.args.place c.args.text.now why))
     (c.in-Some.ensures.inside ∙ ap enclosed c.trimmed.ensures.text)
     (rw c.front_spaces.ensures.count at c.read_terms.ensures.fault)
 
@@ -32,12 +32,12 @@ pub returns-in-None-clause-terms : goal.returns-in-None-clause-terms
 returns-in-None-clause-terms c =
     subst
     (λ (o : Option (List ℕ)). IfOk c.read_terms-in-None.result
-    (λ terms. AreTermsIn c.args.means.now.rows.items o c.args.place c.args.text.now terms.items))
+    (λ terms. AreTermsIn c.args.manner c.args.means.now.rows.items o c.args.place c.args.text.now terms.items))
     (c.in-None.ensures.inside ∙ ap enclosed c.trimmed.ensures.text) c.read_terms-in-None.ensures.terms
 
 pub returns-in-None-clause-fault : goal.returns-in-None-clause-fault
 returns-in-None-clause-fault c =
     subst
     (λ (o : Option (List ℕ)). IfErr c.read_terms-in-None.result
-    (λ why. IsTermsStopIn c.args.means.now.rows.items o c.args.place c.args.text.now why))
+    (λ why. IsTermsStopIn c.args.manner c.args.means.now.rows.items o c.args.place c.args.text.now why))
     (c.in-None.ensures.inside ∙ ap enclosed c.trimmed.ensures.text) c.read_terms-in-None.ensures.fault

@@ -7,7 +7,8 @@ pub loop-term-init : goal.loop-term-init
 loop-term-init c = record {
   fits = c.requires.fits;
   goes =
-      goes_start c.args.means.now.rows.items c.args.place c.args.text.now c.new-terms.result.items c.new-terms.ensures.items;
+      goes_start c.args.manner c.args.means.now.rows.items c.args.place c.args.text.now c.new-terms.result.items
+      c.new-terms.ensures.items;
   fails = λ why h. h;
 }
 
@@ -18,22 +19,24 @@ loop-term-preserved c =
     record {
       fits = omega (arith, c.text_from-rest.ensures.long);
       goes =
-          goes_more rows c.args.place c.args.text.now c.loop-term.at c.term_length-bytes.result c.loop-term.rest.now cut
+          goes_more c.args.manner rows c.args.place c.args.text.now c.loop-term.at c.term_length-bytes.result
+          c.loop-term.rest.now cut
           c.loop-term.terms.items c.push_term.new.terms.items c.in-Ok.term c.in_ok-push_term.ensures (omega arith)
           c.in-Ok.ensures c.loop-term.invariant.goes c.text_from-rest.result.now c.text_from-rest.ensures.text;
       fails =
-          fails_more rows c.args.place c.args.text.now c.loop-term.at c.term_length-bytes.result c.loop-term.rest.now cut
+          fails_more c.args.manner rows c.args.place c.args.text.now c.loop-term.at c.term_length-bytes.result
+          c.loop-term.rest.now cut
           c.in-Ok.term (omega arith) c.in-Ok.ensures c.loop-term.invariant.fails c.text_from-rest.result.now
           c.text_from-rest.ensures.text;
     }
 
 pub returns-in-Err-clause-fault : goal.returns-in-Err-clause-fault
 returns-in-Err-clause-fault c =
-    fails_here c.args.means.now.rows.items c.args.place c.args.text.now c.loop-term.at c.term_length-bytes.result
+    fails_here c.args.manner c.args.means.now.rows.items c.args.place c.args.text.now c.loop-term.at c.term_length-bytes.result
     c.loop-term.rest.now c.term_length-bytes.ensures.bytes c.in-Err.why c.in-Err.ensures c.loop-term.invariant.fails
 
 pub returns-then-rest-bytes-lt3-clause-terms : goal.returns-then-rest-bytes-lt3-clause-terms
 returns-then-rest-bytes-lt3-clause-terms c =
-    goes_last c.args.means.now.rows.items c.args.place c.args.text.now c.loop-term.at c.term_length-bytes.result
+    goes_last c.args.manner c.args.means.now.rows.items c.args.place c.args.text.now c.loop-term.at c.term_length-bytes.result
     c.loop-term.rest.now c.term_length-bytes.ensures.bytes c.loop-term.terms.items c.push_term.new.terms.items c.in-Ok.term
     c.in_ok-push_term.ensures (omega arith) c.in-Ok.ensures c.loop-term.invariant.goes

@@ -6,8 +6,8 @@ use Rattle.gtd_conditional_parts.proofs.terms.read_terms.Given as goal
 abbrev pub invariant-loop-term : goal.invariant-loop-term
 invariant-loop-term l = record {
   fits : l.at + length l.rest ≤ 18446744073709551615;
-  goes : GoesOn l.means.rows.items l.place l.text l.terms.items l.at l.rest;
-  fails : FailsOn l.means.rows.items l.place l.text l.at l.rest;
+  goes : GoesOn l.manner l.means.rows.items l.place l.text l.terms.items l.at l.rest;
+  fails : FailsOn l.manner l.means.rows.items l.place l.text l.at l.rest;
 }
 
 abbrev pub decreases-loop-term : goal.decreases-loop-term

@@ -15,6 +15,7 @@ returns-in_err-name c =
     let is : c.from_residual.result ≡ Err NoMemory = p.1 ∙ ap (λ (why : UnreadTerm). Err why) p.2 in
     record {
       term =
-          subst (λ (answer : Result Term UnreadTerm). IsTerm c.args.means.now.rows.items c.args.place c.args.term.now answer)
-          (sym is) (no_term c.args.means.now.rows.items c.args.place c.args.term.now);
+          subst (λ (answer : Result Term UnreadTerm).
+          IsTerm c.args.manner c.args.means.now.rows.items c.args.place c.args.term.now answer)
+          (sym is) (no_term c.args.manner c.args.means.now.rows.items c.args.place c.args.term.now);
     }

@@ -1,4 +1,4 @@
-use Rattle.std.proofs.Common.{◌↔◌, ◌⊎◌, ◌≤◌, ◌-◌, ℤ, ◌-ℤ◌}
+use Rattle.std.proofs.Common.{◌≡◌, ◌↔◌, ◌⊎◌, ◌≤◌, ◌-◌, ℤ, ◌-ℤ◌}
 use Rattle.gtd_hours_holidays.specs.Days.{IsIn}
 use Rattle.gtd_hours_holidays.specs.KnownYears.{IsOfYears}
 use Rattle.gtd_hours_days.proofs.AdditionFacts.{IsEasterBefore}
@@ -8,6 +8,7 @@ use Rattle.gtd_hours_days.proofs.additions.add_easter.Given as goal
 abbrev pub invariant-loop-year : goal.invariant-loop-year
 invariant-loop-year l = record {
   begun : l.years.first - 2 ≤ l.year;
+  begins : l.days.first ≡ l.fn.days.first;
   added : (n : ℤ) → IsIn l.days n
       ↔ (IsIn l.fn.days n ⊎ (IsOfYears l.years.first l.years.last n
       × IsEasterBefore (l.years.first - 2) l.year (n -ℤ l.offset.days)));

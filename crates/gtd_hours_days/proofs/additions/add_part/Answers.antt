@@ -5,8 +5,8 @@ use Rattle.gtd_hours_holidays.specs.Days.{IsIn}
 use Rattle.gtd_hours_days.proofs.AdditionFacts.{from_in, part_added, part_none, to_in}
 use Rattle.gtd_hours_days.proofs.additions.add_part.Goals as goal
 
-pub returns-then-is_empty : goal.returns-then-is_empty
-returns-then-is_empty c =
+pub returns-then-is_empty-clause-added : goal.returns-then-is_empty-clause-added
+returns-then-is_empty-clause-added c =
     let first : FitsSigned w64 c.first_day.result = search rules in
     let last : FitsSigned w64 c.last_day.result = search rules in
     let from : FitsSigned w64 c.later-from.result = search rules in
@@ -45,8 +45,8 @@ add_between-requires-clause-to_in c =
     (rw (to_z-of_z c.ranges.first, to_z-of_z first) at c.later-from.ensures)
     (rw (to_z-of_z c.ranges.last, to_z-of_z last) at c.earlier-to.ensures) order)
 
-pub returns : goal.returns
-returns c =
+pub returns-clause-added : goal.returns-clause-added
+returns-clause-added c =
     let first : FitsSigned w64 c.first_day.result = search rules in
     let last : FitsSigned w64 c.last_day.result = search rules in
     let from : FitsSigned w64 c.later-from.result = search rules in
@@ -55,4 +55,4 @@ returns c =
     c.first_day.ensures.day c.last_day.ensures.day
     (rw (to_z-of_z c.ranges.first, to_z-of_z first) at c.later-from.ensures)
     (rw (to_z-of_z c.ranges.last, to_z-of_z last) at c.earlier-to.ensures) (IsIn c.add_between.new.days) (IsIn c.args.days.now)
-    c.args.offset.days (rw (to_z-of_z from, to_z-of_z to) at c.in_ok-add_between.ensures)
+    c.args.offset.days (rw (to_z-of_z from, to_z-of_z to) at c.in_ok-add_between.ensures.added)

@@ -10,7 +10,7 @@ returns-in-Some c =
     let day : FitsSigned w64 c.in-Some.day = search rules in
     rw (to_z-of_z day) (uncovered c.args.holidays.now.rows.items c.args.years c.args.kind c.first_day.result c.last_day.result
     c.first_day.ensures.day c.last_day.ensures.day c.in-Some.day
-    (rw (to_z-of_z first, to_z-of_z last, c.in-Some.is) at c.in_ok-day.ensures.first))
+    (rw (to_z-of_z first, to_z-of_z last, c.in-Some.is) at c.first_uncovered.ensures.first))
 
 pub returns-in-None : goal.returns-in-None
 returns-in-None c =
@@ -18,4 +18,4 @@ returns-in-None c =
     let last : FitsSigned w64 c.last_day.result = search rules in
     covers c.args.holidays.now.rows.items c.args.years c.args.kind c.first_day.result c.last_day.result
     c.first_day.ensures.day c.last_day.ensures.day
-    (rw (to_z-of_z first, to_z-of_z last, c.in-None.is) at c.in_ok-day.ensures.first)
+    (rw (to_z-of_z first, to_z-of_z last, c.in-None.is) at c.first_uncovered.ensures.first)

@@ -11,7 +11,7 @@ returns-in-Some c =
     record {
       first = rw (to_z-of_z day) (uncovered_at c.args.holidays.now.rows.items c.args.years c.args.listed.now c.loop-place.place
           c.index-listed-place.result c.in-Some.day c.loop-place-test.true c.index-listed-place.is c.loop-place.invariant
-          (rw c.in-Some.is at c.in_ok-day.ensures));
+          (rw c.in-Some.is at c.first_for.ensures));
     }
 
 pub loop-place-preserved : goal.loop-place-preserved
@@ -22,4 +22,4 @@ loop-place-preserved c =
     let next : take (at + 1) xs ≡ take at xs ++ r ∷ [] =
     take_more xs at r c.loop-place-test.true ∙ ap (λ (x : Listed). take at xs ++ x ∷ []) (sym c.index-listed-place.is) in
     rw next (covers_more c.args.holidays.now.rows.items c.args.years (take at xs) r c.loop-place.invariant
-    (rw c.in-None.is at c.in_ok-day.ensures))
+    (rw c.in-None.is at c.first_for.ensures))

@@ -1,17 +1,34 @@
--- Without a table no text with holidays is read, and others are read in one way.
-use Rattle.gtd_hours_file.specs.HoursFile.{HowRead}
+-- Without a table rules have no days of holidays, and all else is computed from the text.
+use Rattle.gtd_hours_file.proofs.BadPlaces.{one_bad_place}
+use Rattle.gtd_hours_file.proofs.OneKnown as known
+use Rattle.gtd_hours_file.proofs.OneOptions as timed
 use Rattle.gtd_hours_file.proofs.OneWay as proof
 use Rattle.gtd_hours_file.proofs.laws.one_way.Goals as goal
 
 pub returns : goal.returns
 returns c =
-    let loose = c.one_reading.ensures in
-    let plain = c.plain_readings.ensures in
     let fault = c.one_first_fault.ensures in
     let text = c.one_holiday_text.ensures in
-    let tokens = c.one_reading-2.ensures in
+    let tokens = c.one_reading.ensures in
+    let times = c.one_reading-2.ensures in
+    let moments = c.one_moment_text.ensures in
+    let only = c.readings_without_times.ensures in
     record {
       without = λ how none.
-          proof.one_way how.known none fault.fault fault.apart tokens.fault text.checked text.rules text.told text.apart
-          how.manner (λ t read. plain.only how.manner how.known t read) (loose.open how.manner) (loose.cost how.manner);
+          let options = how.options in
+          let place = one_bad_place tokens.fault in
+          let same = known.known_same options.known none fault.fault fault.apart place text.checked text.rules text.told
+          text.apart in
+          let one = known.one_known_fault options.known none fault.fault fault.apart place text.checked text.rules text.told
+          text.apart in
+          let apart = known.known_apart options.known none fault.fault fault.apart place text.checked text.rules text.told
+          text.apart in
+          proof.one_way options
+          (timed.options_same options same one apart times.tokens times.fault times.apart moments.checked moments.places
+          moments.told moments.forms moments.plain (only.only options) (only.fault options))
+          (timed.one_options_fault options same one apart times.tokens times.fault times.apart moments.checked moments.places
+          moments.told moments.forms moments.plain (only.only options) (only.fault options))
+          (timed.options_apart options same one apart times.tokens times.fault times.apart moments.checked moments.places
+          moments.told moments.forms moments.plain (only.only options) (only.fault options))
+          how.manner;
     }

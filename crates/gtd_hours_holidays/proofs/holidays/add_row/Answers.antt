@@ -3,8 +3,8 @@ use Rattle.std.proofs.Common.{rules, FitsSigned, w64, to_z-of_z}
 use Rattle.gtd_hours_holidays.proofs.HolidayFacts.{row_added}
 use Rattle.gtd_hours_holidays.proofs.holidays.add_row.Goals as goal
 
-pub returns-in_ok-add : goal.returns-in_ok-add
-returns-in_ok-add c =
+pub returns-in_ok-add-clause-added : goal.returns-in_ok-add-clause-added
+returns-in_ok-add-clause-added c =
     let first : FitsSigned w64 c.args.row.now.first = search rules in
     let last : FitsSigned w64 c.args.row.now.last = search rules in
     row_added c.args.kind c.args.covers c.args.days.now c.add.new.self c.args.row.now

@@ -4,7 +4,8 @@ use Rattle.gtd_hours.specs.Opening.{SomeHolds}
 use Rattle.gtd_hours_days.specs.Listed.{SomeListed}
 use Rattle.gtd_hours_days.proofs.AdditionFacts.{some_near}
 use Rattle.gtd_hours_days.proofs.CoverFacts.{short_runs}
-use Rattle.gtd_hours_known.proofs.DayFacts.{days_of_runs}
+use Rattle.gtd_hours_known.specs.HolidayDays.{AreRangesOf}
+use Rattle.gtd_hours_known.proofs.DayFacts.{days_of_runs, ranges_apart, some_ranges}
 use Rattle.gtd_hours_known.proofs.selectors.listed_selectors.Goals as goal
 
 pub run_selectors-requires : goal.run_selectors-requires
@@ -16,10 +17,14 @@ run_selectors-requires c =
 
 pub returns-clause-days : goal.returns-clause-days
 returns-clause-days c =
-    let selected = c.in_ok-days.ensures.selected in (
+    let selected = c.in_ok-days.ensures.selected in
+    let ranges : AreRangesOf c.in_ok-runs.runs.items c.in_ok-selectors.selectors.items =
+    rw c.as_slice.ensures.value at c.in_ok-selectors.ensures in (
       selected.0,
       λ n f. days_of_runs (SomeHolds c.in_ok-selectors.selectors.items n f)
           (SomeListed c.args.holidays.now.rows.items c.args.years c.args.listed.now n) c.in_ok-days.days
           c.in_ok-runs.runs.items n c.in_ok-runs.ensures.runs
-          (rw c.as_slice.ensures.value at (c.in_ok-selectors.ensures n f)) (selected.1 n),
+          (some_ranges c.in_ok-runs.runs.items c.in_ok-selectors.selectors.items n f ranges) (selected.1 n),
+      ranges_apart c.in_ok-days.days first_calendar_day c.in_ok-runs.runs.items c.in_ok-selectors.selectors.items
+          c.in_ok-runs.ensures.runs ranges,
     )

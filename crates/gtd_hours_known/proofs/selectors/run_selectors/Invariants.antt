@@ -1,13 +1,13 @@
-use Rattle.std.proofs.Common.{◌↔◌, ◌⊎◌, length, ℤ}
-use Rattle.gtd_calendar.specs.declared.day.DayFields.{DayFields}
-use Rattle.gtd_hours.specs.Opening.{SomeHolds}
-use Rattle.gtd_hours_days.specs.Parts.{AreShort, SomeRun}
+use Rattle.std.proofs.Common.{◌≡◌, ◌++◌, List, length}
+use Rattle.gtd_hours_holidays.specs.declared.run.Run.{Run}
+use Rattle.gtd_hours_days.specs.Parts.{AreShort}
+use Rattle.gtd_hours_known.specs.HolidayDays.{AreRangesOf}
 use Rattle.gtd_hours_known.proofs.selectors.run_selectors.Given as goal
 
--- the selectors so far, with the days of the runs that are left
+-- the selectors so far are those of the runs that were passed
 abbrev pub invariant-loop-run : goal.invariant-loop-run
 invariant-loop-run l = record {
-  days : (n : ℤ) (f : DayFields) → (SomeHolds l.days.items n f ⊎ SomeRun l.rest n) ↔ SomeRun l.runs n;
+  ranges : (passed : List Run) × (l.runs ≡ passed ++ l.rest) × AreRangesOf passed l.days.items;
   short : AreShort l.rest;
 }
 

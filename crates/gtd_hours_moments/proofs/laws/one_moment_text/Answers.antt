@@ -14,5 +14,8 @@ returns-clause-told c = proof.one_told c.one_reading.ensures.tokens
 pub returns-clause-forms : goal.returns-clause-forms
 returns-clause-forms c = proof.one_forms c.one_reading.ensures.tokens
 
+pub returns-clause-breaks : goal.returns-clause-breaks
+returns-clause-breaks c = proof.one_end c.one_reading.ensures.tokens
+
 pub returns-clause-plain : goal.returns-clause-plain
 returns-clause-plain c = proof.one_plain c.one_reading.ensures.tokens

@@ -1,6 +1,5 @@
 -- Without a strict form the fault is that of a token; with one, hours and fault are those of the form, at places of the text.
-use Rattle.std.proofs.Common.{◌∙◌, ap, ℕ, List, length, refl, subst, sym}
-use Rattle.gtd_hours_known.specs.Manners.{placed_holiday}
+use Rattle.std.proofs.Common.{◌∙◌, ap, ℕ, List, length, subst, sym}
 use Rattle.gtd_hours_loose.specs.declared.strict.Part.{Part}
 use Rattle.gtd_hours_options.specs.Manners.{IsMendedStop, mended, placed}
 use Rattle.gtd_hours_options.specs.Reading.{IsOptionsStop, StandsWith}
@@ -23,12 +22,9 @@ returns-in-Err-read_hours_with-clause-fault c =
     subst (IsMendedStop c.args.names c.args.options.now c.args.text.now) (sym same)
     (placed_stop c.args.names c.args.options.now c.args.text.now form why c.in-Ok.ensures.form fault)
 
-pub returns-in-Ok-read_hours_with-clause-hours : goal.returns-in-Ok-read_hours_with-clause-hours
-returns-in-Ok-read_hours_with-clause-hours c =
-    let read = c.in-Ok-read_hours_with.read in
-    let stands = subst (λ (l : List ℕ). StandsWith c.args.options.now l read.hours read.first_holiday)
+pub returns-in-Ok-placed_read-clause-hours : goal.returns-in-Ok-placed_read-clause-hours
+returns-in-Ok-placed_read-clause-hours c =
+    let own = c.in-Ok-read_hours_with.read in
+    let stands = subst (λ (l : List ℕ). StandsWith c.args.options.now l own)
     c.as_slice.ensures.value c.in-Ok-read_hours_with.ensures.hours in
-    mended c.args.bad c.in-Ok.form read.first_holiday c.requires refl c.in-Ok.ensures.form stands
-    (c.placed_holiday.ensures
-    ∙ ap (λ (l : List Part). placed_holiday (length c.args.text.now) l read.first_holiday)
-    c.as_slice-in-Ok-read_hours_with.ensures.value)
+    mended c.args.bad c.in-Ok.form own c.requires c.in-Ok.ensures.form stands c.in-Ok-placed_read.ensures

@@ -3,7 +3,7 @@ use Rattle.std.proofs.Common.{◌∙◌, ap, ℕ, List, length, subst, sym}
 use Rattle.gtd_hours_known.specs.Reading.{IsKnownStop, KnownStandsFor}
 use Rattle.gtd_hours_moments.specs.declared.placed.Placed.{Placed}
 use Rattle.gtd_hours_options.specs.Reading.{IsTimesStop, plain_stop}
-use Rattle.gtd_hours_options.specs.Told.{placed_holiday}
+use Rattle.gtd_hours_options.specs.Told.{IsPlacedReading}
 use Rattle.gtd_hours_options.proofs.ReadingFacts.{no_text, plain_text}
 use Rattle.gtd_hours_options.proofs.reader.read_plain.Goals as goal
 
@@ -24,14 +24,13 @@ returns-in-Err-read_known_hours-clause-fault c =
 
 pub returns-clause-hours : goal.returns-clause-hours
 returns-clause-hours c =
-    let read = c.in-Ok-read_known_hours.read in
+    let own = c.in-Ok-read_known_hours.read in
     record {
       plain = c.in-Ok.plain;
-      holiday = read.first_holiday;
+      own = own;
       is = c.in-Ok.ensures.plain;
-      stands = subst (λ (l : List ℕ). KnownStandsFor c.args.options.now.known l read.hours read.first_holiday)
+      stands = subst (λ (l : List ℕ). KnownStandsFor c.args.options.now.known l own)
           c.as_slice.ensures.value c.in-Ok-read_known_hours.ensures.hours;
-      placed = c.placed_holiday.ensures
-          ∙ ap (λ (l : List Placed). placed_holiday (length c.args.text.now) l read.first_holiday)
-          c.as_slice-in-Ok-read_known_hours.ensures.value;
+      placed = subst (λ (l : List Placed). IsPlacedReading (length c.args.text.now) l own c.in-Ok-placed_read.read)
+          c.as_slice-in-Ok-read_known_hours.ensures.value c.in-Ok-placed_read.ensures.hours;
     }

@@ -6,9 +6,9 @@ use Rattle.gtd_hours_warnings.proofs.warnings.add_hides.Given as goal
 
 abbrev pub invariant-loop-rule : goal.invariant-loop-rule
 invariant-loop-rule l =
-    AreRules l.fn.read.hours l.rest
-    × ((all : List Warning) → AddsHides l.text l.fn.read l.rest l.warnings.items all
-    → AddsHides l.text l.fn.read l.rules l.initial.warnings.items all)
+    AreRules l.fn.hours l.rest
+    × ((all : List Warning) → AddsHides l.text l.fn.hours l.fn.form l.rest l.warnings.items all
+    → AddsHides l.text l.fn.hours l.fn.form l.initial.rest l.initial.warnings.items all)
 
 abbrev pub decreases-loop-rule : goal.decreases-loop-rule
 decreases-loop-rule l = length l.rest

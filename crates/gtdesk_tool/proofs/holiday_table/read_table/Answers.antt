@@ -2,7 +2,7 @@
 use Rattle.std.proofs.Common.{rules, inl, inr, refl, [], ◌∷◌}
 use Rattle.gtd_hours_holidays.specs.declared.fault.HolidaysFault.TheVariants as holidays
 use Rattle.gtdesk_tool.specs.Telling.{telling}
-use Rattle.gtdesk_tool.proofs.HolidayFacts.{too_large}
+use Rattle.gtdesk_tool.proofs.TextFacts.{too_large}
 use Rattle.gtdesk_tool.proofs.LooseFacts.{keeps_same}
 use Rattle.gtdesk_tool.proofs.TableFacts.{of_told, table_of_bytes}
 use Rattle.gtdesk_tool.proofs.holiday_table.read_table.Goals as goal

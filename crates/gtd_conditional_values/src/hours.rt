@@ -1,0 +1,50 @@
+//! Hours in a condition, and where they are warned of.
+
+ghost use Rattle.std.specs.Prelude.{◌≡◌, IfOk, map};
+ghost use Rattle.gtd_conditional_values.specs.TermHours as spec;
+
+use gtd_hours::Hours;
+use gtd_hours_loose::LooseHours;
+use gtd_hours_warnings::{Warning, warnings_of};
+use std::alloc::{AllocError, Global};
+
+/// Hours in a condition.
+#[derive(Drop)]
+pub struct TermHours {
+    /// The hours.
+    pub hours: Hours,
+    /// Their warnings, in the order of their places, which are numbers of bytes of the value before them.
+    pub warnings: Vec<Warning>,
+}
+
+// The warnings of a text that begins at this place of a value, with their places there.
+fn placed(alloc: Global, start: usize, warnings: Vec<Warning>) -> Result<Vec<Warning>, AllocError>
+    ensures { IfOk result (λ found. found.items ≡ map (spec.placed start) warnings.items) }
+{
+    let mut found = Vec::new(alloc);
+    for warning in warnings {
+        found.push(Warning {
+            kind: warning.kind,
+            place: start.saturating_add(warning.place),
+            form: warning.form,
+        })?;
+    }
+    Ok(found)
+}
+
+/// The hours that were read of a text that begins at this place of a value, with its warnings.
+pub(crate) fn hours_at(
+    alloc: Global,
+    start: usize,
+    text: &[u8],
+    read: LooseHours,
+) -> Result<TermHours, AllocError>
+    ensures { IfOk result (spec.AreHoursAt start text.now read) }
+{
+    let found = warnings_of(alloc, text, &read)?;
+    let warnings = placed(alloc, start, found)?;
+    Ok(TermHours {
+        hours: read.hours,
+        warnings,
+    })
+}

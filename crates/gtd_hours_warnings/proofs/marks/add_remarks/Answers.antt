@@ -1,0 +1,14 @@
+-- What one place and those behind it add is what is left to be added.
+use Rattle.std.proofs.Common.{◌≡◌, ◌∷◌}
+use Rattle.gtd_hours_warnings.proofs.MarkFacts.{remarks_left}
+use Rattle.gtd_hours_warnings.proofs.marks.add_remarks.Goals as goal
+
+pub loop-place-preserved : goal.loop-place-preserved
+loop-place-preserved c =
+    let rest = c.loop-place.rest.now in
+    let place = c.in-Some.place.now in
+    let later = c.in-Some.later.now in
+    let split : rest ≡ place ∷ later = c.in-Some.ensures.cases.0 in
+    λ all adds. c.loop-place.invariant all
+    (remarks_left c.args.text.now rest later place c.in_ok-warning.warning c.loop-place.warnings.items
+    c.put_in.new.warnings.items all split c.in_ok-warning.ensures c.in_ok-put_in.ensures adds)

@@ -1,0 +1,86 @@
+-- The warnings of a text that may have holidays, comments and fallback rules that are unknown.
+use Rattle.std.specs.Prelude.{◌≡◌, ◌+◌, ◌++◌, ◌==◌, not, ℕ, Bool, List, [], ◌∷◌, codes, decimal, drop, take, Option, Some, None}
+use Rattle.std.specs.List.{prefix_len}
+use Rattle.gtd_hours_holidays.specs.declared.known_years.KnownYears.{KnownYears}
+use Rattle.gtd_hours_known.specs.declared.known.KnownHours.{KnownHours}
+use Rattle.gtd_hours_warnings.specs.Warnings.{AddsAllHides, AddsLooseForm, put_in}
+use Rattle.gtd_hours_warnings.specs.declared.warnings.Warning.{Warning}
+use Rattle.gtd_hours_warnings.specs.declared.warnings.WarningKind.TheVariants as kind
+
+-- ---- remarks
+
+-- a byte that is no quote (34)
+abbrev pub is_unquoted : ℕ → Bool
+is_unquoted byte = not (byte == 34)
+
+-- The comment with which bytes begin: the first quote, and what follows with the next quote or, if there is none, to the end.
+abbrev pub comment_of : List ℕ → List ℕ
+comment_of [] = []
+comment_of (quote ∷ bytes) = quote ∷ take (prefix_len is_unquoted bytes + 1) bytes
+
+-- The comment whose first quote is here, as it is written.
+abbrev pub comment_at : List ℕ → ℕ → List ℕ
+comment_at text place = comment_of (drop place text)
+
+-- The warning of a comment on an open rule: it lacks the word that says that the rule is open.
+pub record IsRemarkWarning (text : List ℕ) (place : ℕ) (w : Warning) : Type 0 where
+  pub kind : w.kind ≡ kind.Remark
+  pub at : w.place ≡ place
+  pub form : w.form.items ≡ codes "open " ++ comment_at text place
+
+-- Those of the comments at these places are put to the warnings before.
+abbrev pub AddsRemarks : List ℕ → List ℕ → List Warning → List Warning → Type 0
+AddsRemarks text [] before after = after ≡ before
+AddsRemarks text (place ∷ places) before after =
+    (w : Warning) × IsRemarkWarning text place w × AddsRemarks text places (put_in w before) after
+
+-- ---- rules that are not known
+
+-- The warning of a fallback rule of which it is not known whether it is open, by what stands at this place.
+pub record IsNotKnownWarning (place : ℕ) (w : Warning) : Type 0 where
+  pub kind : w.kind ≡ kind.NotKnown
+  pub at : w.place ≡ place
+  pub form : w.form.items ≡ []
+
+-- Those of the rules at these places are put to the warnings before.
+abbrev pub AddsNotKnown : List ℕ → List Warning → List Warning → Type 0
+AddsNotKnown [] before after = after ≡ before
+AddsNotKnown (place ∷ places) before after =
+    (w : Warning) × IsNotKnownWarning place w × AddsNotKnown places (put_in w before) after
+
+-- ---- holidays
+
+-- the years as a warning names them: `F-L`, also if they are the same
+abbrev pub years_text : KnownYears → List ℕ
+years_text years = decimal years.first ++ codes "-" ++ decimal years.last
+
+-- The warning that the holiday at this place, and all others, are known in these years alone.
+pub record IsKnownYearsWarning (place : ℕ) (years : KnownYears) (w : Warning) : Type 0 where
+  pub kind : w.kind ≡ kind.KnownYears
+  pub at : w.place ≡ place
+  pub form : w.form.items ≡ years_text years
+
+-- It is put to the warnings before, if years are given.
+abbrev pub AddsYears : ℕ → Option KnownYears → List Warning → List Warning → Type 0
+AddsYears place None before after = after ≡ before
+AddsYears place (Some years) before after =
+    (w : Warning) × IsKnownYearsWarning place years w × (after ≡ put_in w before)
+
+-- What is put last: of a text without a first holiday the warnings of the rules that hide hours, of another one the years.
+abbrev pub AddsLast : List ℕ → KnownHours → Option ℕ → Option KnownYears → List Warning → List Warning → Type 0
+AddsLast text read None years before after = AddsAllHides text read.hours read.form before after
+AddsLast text read (Some place) years before after = AddsYears place years before after
+
+-- ---- all
+
+-- The warnings of a text from which these hours are read, if holidays are known in these years: of what is written loosely, in
+-- its order; and put to these, each at its place, first those of its remarks, then those of its rules that are not known, and
+-- then those of the rules that hide hours or, if it has a holiday, the years.
+pub record AreWarningsWith (text : List ℕ) (read : KnownHours) (years : Option KnownYears) (found : List Warning) : Type 0 where
+  pub loose : List Warning
+  pub remarked : List Warning
+  pub marked : List Warning
+  pub are_loose : AddsLooseForm text read.form loose
+  pub remarks : AddsRemarks text read.remarks.items loose remarked
+  pub unknowns : AddsNotKnown read.unknowns.items remarked marked
+  pub put : AddsLast text read read.first_holiday years marked found

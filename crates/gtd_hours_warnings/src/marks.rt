@@ -1,0 +1,192 @@
+//! The warnings of a text that may have holidays, comments and fallback rules that are unknown.
+
+ghost use Rattle.std.specs.Prelude.{◌≡◌, ◌≤◌, IfOk, OnOk, drop, length};
+ghost use Rattle.std.specs.List.{prefix_len};
+ghost use Rattle.gtd_hours_warnings.specs.Marks.{AddsLast, AddsNotKnown, AddsRemarks, AddsYears, AreWarningsWith};
+ghost use Rattle.gtd_hours_warnings.specs.Marks.{IsKnownYearsWarning, IsNotKnownWarning, IsRemarkWarning, comment_at};
+ghost use Rattle.gtd_hours_warnings.specs.Marks.{is_unquoted};
+
+use crate::warnings::{Warning, WarningKind, add_hides, form_warnings, put_in};
+use gtd_hours_holidays::KnownYears;
+use gtd_hours_known::KnownHours;
+use itoa::Buffer;
+use std::alloc::{AllocError, Global};
+
+// How many bytes stand before the first quote.
+fn before_quote(bytes: &[u8]) -> usize
+    ensures count { result ≡ prefix_len is_unquoted bytes.now }
+    ensures within { result ≤ length bytes.now }
+{
+    let mut count = 0;
+    let mut rest = bytes;
+    while let Some((byte, later)) = rest.split_first() {
+        if *byte == b'"' {
+            return count;
+        }
+        count += 1;
+        rest = later;
+    }
+    count
+}
+
+// The bytes from a place on; none if it is behind the text.
+fn from_place(text: &[u8], place: usize) -> &[u8]
+    ensures { result.now ≡ drop place text.now }
+{
+    if place < text.len() {
+        &text[place..]
+    } else {
+        &text[text.len()..]
+    }
+}
+
+// The comment whose first quote is here, with its quotes.
+fn comment_at(text: &[u8], place: usize) -> &[u8]
+    ensures { result.now ≡ comment_at text.now place }
+{
+    let comment = from_place(text, place);
+    match comment.split_first() {
+        None => comment,
+        Some((_, inner)) => {
+            let inside = before_quote(inner);
+            if inside < inner.len() {
+                &comment[..inside + 2]
+            } else {
+                comment
+            }
+        }
+    }
+}
+
+// The warning of a comment on an open rule.
+fn remark_warning(alloc: Global, text: &[u8], place: usize) -> Result<Warning, AllocError>
+    ensures { IfOk result (IsRemarkWarning text.now place) }
+{
+    let mut form = Vec::new(alloc);
+    form.extend_from_slice(b"open ")?;
+    form.extend_from_slice(comment_at(text, place))?;
+    Ok(Warning {
+        kind: WarningKind::Remark,
+        place,
+        form,
+    })
+}
+
+// Adds the warnings of the comments at these places.
+fn add_remarks(
+    alloc: Global,
+    warnings: &mut Vec<Warning>,
+    text: &[u8],
+    places: &[usize],
+) -> Result<(), AllocError>
+    ensures { OnOk result (AddsRemarks text.now places.now warnings.old.items warnings.new.items) }
+{
+    let mut rest = places;
+    while let Some((place, later)) = rest.split_first() {
+        let warning = remark_warning(alloc, text, *place)?;
+        put_in(warnings, warning)?;
+        rest = later;
+    }
+    Ok(())
+}
+
+// The warning of a fallback rule that is unknown by what stands at a place.
+fn not_known_warning(alloc: Global, place: usize) -> Warning
+    ensures { IsNotKnownWarning place result }
+{
+    Warning {
+        kind: WarningKind::NotKnown,
+        place,
+        form: Vec::new(alloc),
+    }
+}
+
+// Adds the warnings of the fallback rules that are unknown by what stands at these places.
+fn add_not_known(
+    alloc: Global,
+    warnings: &mut Vec<Warning>,
+    places: &[usize],
+) -> Result<(), AllocError>
+    ensures { OnOk result (AddsNotKnown places.now warnings.old.items warnings.new.items) }
+{
+    let mut rest = places;
+    while let Some((place, later)) = rest.split_first() {
+        put_in(warnings, not_known_warning(alloc, *place))?;
+        rest = later;
+    }
+    Ok(())
+}
+
+// The warning that the holiday at this place, and all others, are known in these years alone.
+fn known_years_warning(
+    alloc: Global,
+    place: usize,
+    years: KnownYears,
+) -> Result<Warning, AllocError>
+    ensures { IfOk result (IsKnownYearsWarning place years) }
+{
+    let mut form = Vec::new(alloc);
+    form.extend_from_slice(Buffer::new().format(years.first).as_bytes())?;
+    form.extend_from_slice(b"-")?;
+    form.extend_from_slice(Buffer::new().format(years.last).as_bytes())?;
+    Ok(Warning {
+        kind: WarningKind::KnownYears,
+        place,
+        form,
+    })
+}
+
+// Adds this warning, if years are given.
+fn add_years(
+    alloc: Global,
+    warnings: &mut Vec<Warning>,
+    place: usize,
+    years: Option<KnownYears>,
+) -> Result<(), AllocError>
+    ensures { OnOk result (AddsYears place years warnings.old.items warnings.new.items) }
+{
+    match years {
+        None => Ok(()),
+        Some(years) => {
+            let warning = known_years_warning(alloc, place, years)?;
+            put_in(warnings, warning)
+        }
+    }
+}
+
+// Adds the warnings of the rules that hide hours or, if there is a holiday, the years.
+fn add_last(
+    alloc: Global,
+    warnings: &mut Vec<Warning>,
+    text: &[u8],
+    read: &KnownHours,
+    years: Option<KnownYears>,
+) -> Result<(), AllocError>
+    ensures { OnOk result
+        (AddsLast text.now read.now read.now.first_holiday years warnings.old.items warnings.new.items) }
+{
+    match read.first_holiday {
+        None => add_hides(alloc, warnings, text, &read.hours, &read.form),
+        Some(place) => add_years(alloc, warnings, place, years),
+    }
+}
+
+/// The warnings of a text from which these hours are read, in the order of their places: where it is written loosely; its
+/// comments on open rules without a word that says so, each with that word; its fallback rules that are unknown; and then, if it
+/// has no holiday, the rules that hide hours of an earlier one, each with the hours that stay if a comma stands before it, or
+/// else at its first holiday the years in which holidays are known, if they are given. `AllocError` is answered only if memory
+/// was refused.
+pub fn warnings_with(
+    alloc: Global,
+    text: &[u8],
+    read: &KnownHours,
+    years: Option<KnownYears>,
+) -> Result<Vec<Warning>, AllocError>
+    ensures { IfOk result (λ found. AreWarningsWith text.now read.now years found.items) }
+{
+    let mut warnings = form_warnings(alloc, text, &read.form)?;
+    add_remarks(alloc, &mut warnings, text, read.remarks.as_slice())?;
+    add_not_known(alloc, &mut warnings, read.unknowns.as_slice())?;
+    add_last(alloc, &mut warnings, text, read, years)?;
+    Ok(warnings)
+}
