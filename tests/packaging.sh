@@ -162,7 +162,7 @@ complete_in() {
     tab "$1" 'gtdesk help rec' '<help><records>'
     tab "$1" 'gtdesk faults --w' '<faults><--warn>'
     tab "$1" 'gtdesk faults --warn restr' '<faults><--warn><restrictions.csv>'
-    tab "$1" 'gtdesk hours --o' '<hours><--of>'
+    tab "$1" 'gtdesk hours --op' '<hours><--open-end>'
     tab "$1" 'gtdesk hours --ho' '<hours><--holidays>'
     tab "$1" 'gtdesk same --fr' '<same><--from>'
     tab "$1" 'gtdesk same --fi' '<same><--file>'
