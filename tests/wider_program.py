@@ -11,10 +11,7 @@ Usage: tests/wider_program.py [SECONDS [SEED]]    (without SECONDS no drawn text
 """
 import datetime
 import os
-import random
 import sys
-import tempfile
-import time
 
 import holidays_model
 import hours
@@ -24,14 +21,13 @@ import known_program
 import model
 import moments
 import wider_model
-from hours import Failure, expect
-from hours_program import NO_DOMAIN, PROGRAM, line_of, told
+from hours import expect
+from hours_program import NO_DOMAIN, line_of, told
 
 TABLES = os.path.join(hours.TOP, "holidays")
 STATES = ["", "", "", "", " off", " open", ' "by appointment"', ' open "a, b; c"', ' off "a || b"', " unknown", ' unknown "ask"']
 LINKS = ["; ", "; ", ";", ", ", " || ", "||"]
 WORDS = known_program.WORDS + list(moments.WORDS) + ["unknown", "||", "|", '"x"', '"a; b"', '"', '""']
-FEWEST = 6
 
 
 def words_of(options):
@@ -159,35 +155,6 @@ def check_drawn(chance, folder):
     return True
 
 
-def main():
-    if not os.path.exists(PROGRAM):
-        sys.exit(f"no program at {PROGRAM}: run rt ci first")
-    seconds = float(sys.argv[1]) if len(sys.argv) > 1 else 0
-    seed = int(sys.argv[2]) if len(sys.argv) == 3 else random.SystemRandom().randrange(10**9)
-    chance, tables = random.Random(seed), holidays_model.tables()
-    worked = hours.rows_of("remarks.csv") + hours.rows_of("moments.csv")
-    failed, rounds, domains = 0, 0, 0
-    for row in worked:
-        try:
-            check_row(row, tables)
-        except (Failure, hours_model.Fault, model.Fault) as failure:
-            print(f"FAILED {failure}")
-            failed += 1
-    end = time.monotonic() + seconds
-    with tempfile.TemporaryDirectory() as folder:
-        while time.monotonic() < end and not failed:
-            try:
-                domains += check_drawn(chance, folder)
-                rounds += 1
-            except (Failure, hours_model.Fault, model.Fault) as failure:
-                print(f"FAILED with seed {seed}, in round {rounds + 1}: {failure}")
-                failed += 1
-    if FEWEST * domains < rounds:
-        print(f"FAILED only {domains} of {rounds} drawn texts have a domain")
-        failed += 1
-    print(f"wider_program: {len(worked) + rounds - failed} passed, {failed} failed")
-    sys.exit(1 if failed else 0)
-
-
 if __name__ == "__main__":
-    main()
+    worked_rows = hours.rows_of("remarks.csv") + hours.rows_of("moments.csv")
+    sys.exit(known_program.tried("wider_program", worked_rows, check_row, check_drawn, 6))
