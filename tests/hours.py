@@ -4,7 +4,8 @@
 For each row of tests/hours/texts.csv, the hours and the time domain beside them are open in the same minutes of four years: the
 hours by the model of hours, the domain by the plain model of domains, tests/model.py. For each row of tests/hours/faults.csv,
 the text has that fault. For each row of tests/hours/loose.csv, by the model of tests/loose_model.py, the text has that mended
-text and these warnings, or that fault. Then, for SECONDS, random texts of the grammar: they are read, what is printed of them is
+text and these warnings, or that fault. A row with both is no plain hours, but by the wider model, tests/wider_model.py, it means
+what the mended text means, where the times of the sun are given. Then, for SECONDS, random texts of the grammar: they are read, what is printed of them is
 read again and means the same, a damaged text has its fault where the words before it can still become hours, and with the next
 one cannot, and a text whose tokens are written loosely means the same, with a warning at each of them.
 
@@ -22,6 +23,7 @@ from functools import lru_cache
 import hours_model
 import loose_model
 import model
+import wider_model
 
 TOP = os.path.dirname(os.path.abspath(__file__))
 FIRST = datetime.date(2023, 1, 1)
@@ -32,6 +34,7 @@ SAMPLES = 12
 FEWEST_TEXTS, FEWEST_FAULTS, FEWEST_LOOSE, MOST_BASIC_DOMAINS = 100, 40, 60, 128
 ENDINGS = ["", "off", "Mo", "-10:00", "10:00", "/7", "7", "]", "1]", "5]", "1", "31", "53", "Jan", "Dec 31", "2799"]
 ENDINGS += ["2799 Dec 31", "1 day", "5] +1 day", "day"]
+SUN = {"sunrise": 390, "sunset": 1200, "dawn": 350, "dusk": 1240}
 DATED_RANGE = re.compile(r"[0-9]{4} *[A-Z][a-z]{2} *([0-9]+ *- *[0-9]{4}|-)")
 
 
@@ -129,8 +132,27 @@ def shown(warnings):
     return "; ".join(f"{kind} at {place}" + (f": {form}" if form else "") for kind, place, form in warnings)
 
 
+def read_wider(text):
+    return wider_model.read(text, None, None, SUN)
+
+
+def without_places(rules):
+    return [rule._replace(at=0, place=None) for rule in rules]
+
+
+def check_wider_loose(row):
+    """A text that is no plain hours means what its mended text means, and has its warnings of loose forms."""
+    rules, warnings = loose_model.read(row["text"].encode(), row["names"] == "de", read_wider)
+    expect(without_places(rules) == without_places(read_wider(row["mended"].encode())), f"{row['text']!r}: {rules}")
+    told = "; ".join(warning for warning in row["warnings"].split("; ") if warning.startswith("Loose "))
+    expect(shown(warnings) == told, f"{row['text']!r}: {shown(warnings)}")
+
+
 def check_loose(row):
     """The mended text and the warnings of a row, or its fault. Mended again it is the same, without a warning."""
+    if row["fault"] and row["mended"]:
+        check_wider_loose(row)
+        row = row | {"mended": "", "warnings": ""}
     try:
         rules, warnings = loose_model.read(row["text"].encode(), row["names"] == "de")
         found = (hours_model.print_rules(rules), shown(warnings), "")

@@ -5,8 +5,9 @@ For each row of tests/hours/texts.csv, the domain that is printed contains the s
 model of hours, and as the domain beside them. For each row of tests/hours/faults.csv, that fault is printed, and nothing else.
 These texts are read with `--strict`, and printed alike without it. For each row of tests/hours/hidden.csv, the rules that hide
 hours are told with the hours beside them. For each row of tests/hours/loose.csv, `gtdesk hours` prints the domain of its mended
-text and tells its warnings, `gtdesk mend hours` prints that text, or both tell its fault. Whatever the text, the warnings that are
-told are those by the model of hidden hours (tests/hidden_model.py).
+text and tells its warnings, and `gtdesk mend hours` prints that text; or that tells its fault, and `gtdesk hours` with the times
+of the sun reads the mended text, or has a fault by the wider model. Whatever the text, the warnings that are told of plain hours
+are those by the model of hidden hours (tests/hidden_model.py).
 For these texts, for those of tests/rows/desk_hour*.rows that have a domain, and for texts of each form (every range of weekdays,
 months, weeks and so on that differs in how it is translated), `gtdesk hours --of DOMAIN` answers hours, whose domain is the same
 again; but not for those with offsets of days, which it does not look for. Then, for SECONDS, random texts of the grammar, whose
@@ -29,6 +30,7 @@ import time
 import hidden_model
 import hours
 import hours_model
+import loose_model
 import model
 import rows
 import wider_model
@@ -38,7 +40,7 @@ PROGRAM = rows.PROGRAMS["gtdesk"]
 NO_DOMAIN = "gtdesk: TEXT: "
 LEAP_YEAR = 2000
 OFFSET = re.compile(r"\bdays?\b", re.I)
-HOLIDAY = re.compile(r"\b[PS]H\b", re.I)
+SUN = [word for name, at in hours.SUN.items() for word in (f"--{name}", f"{at // 60:02}:{at % 60:02}")]
 FEWEST_ROWS, FEWEST_FORMS = 100, 1000
 DAYS, CHANGES, SAMPLES = 120, 60, 60
 
@@ -109,21 +111,38 @@ def check_hidden(row):
     expect([line.split(": ", 3)[3] for line in said if ": warning Hides at " in line] == kept, f"{text!r}: {said}")
 
 
+def listed(lines):
+    """Warnings without those of rules that hide hours."""
+    found = [line[len(f"{NO_DOMAIN}warning "):] for line in lines.splitlines() if "warning Hides" not in line]
+    return "; ".join(found)
+
+
+def check_wider_loose(row, names):
+    """The same of a text that is no plain hours, with the times of the sun."""
+    text, read = row["text"], told("hours", *SUN, *names, "--", row["text"])
+    if row["mended"]:
+        strict = told("hours", "--strict", *SUN, "--", row["mended"])
+        expect((read.returncode, strict.returncode, read.stdout) == (0, 0, strict.stdout), f"{text!r}: {read}, {strict}")
+        expect(listed(read.stderr) == row["warnings"], f"{text!r}: {read.stderr}")
+        return
+    try:
+        wanted = f"no fault, but {loose_model.read(text.encode(), bool(names), hours.read_wider)}"
+    except hours_model.Fault as fault:
+        wanted = f"{NO_DOMAIN}{fault}\n"
+    expect((read.returncode, read.stdout, line_of(read, text)) == (1, "", wanted), f"{text!r}: {read}, by the model {wanted}")
+
+
 def check_loose(row):
     """The domain of a text and its warnings, and the text as it is mended; or its fault."""
     text, names = row["text"], ["--day-names", row["names"]] if row["names"] else []
     read, mended = told("hours", *names, "--", text), told("mend", "hours", *names, "--", text)
     if row["fault"]:
         fault = (1, "", f"{NO_DOMAIN}{row['fault']}\n")
-        wider = f"{NO_DOMAIN}{fault_of(text)}\n"
-        wanted = fault[2].replace("Unsupported", "Holidays") if HOLIDAY.search(text) else fault[2]
-        found = (read.returncode, read.stdout, line_of(read, text))
-        expect(found in ((1, "", wanted), (1, "", wider)), f"{text!r}: {read}")
         expect((mended.returncode, mended.stdout, line_of(mended, text)) == fault, f"{text!r}: {mended}")
+        check_wider_loose(row, names)
         return
     warnings = warned(text, bool(row["names"]))
-    listed = [line[len(f"{NO_DOMAIN}warning "):] for line in warnings.splitlines() if "warning Hides" not in line]
-    expect(listed == [warning for warning in row["warnings"].split("; ") if warning], f"{text!r}: {warnings}")
+    expect(listed(warnings) == row["warnings"], f"{text!r}: {warnings}")
     domain = (0, f"{run(row['mended'])[0]}\n", warnings)
     expect((read.returncode, read.stdout, read.stderr) == domain, f"{text!r}: {read}")
     expect((mended.returncode, mended.stdout, mended.stderr) == (0, row["mended"] + "\n", ""), f"{text!r}: {mended}")

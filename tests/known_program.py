@@ -126,13 +126,6 @@ def damaged(text, chance):
     return chance.choice((text[:at], text[:at] + chance.choice(WORDS) + text[at:], text[:at] + " " + chance.choice(WORDS)))
 
 
-def is_told(found, fault, text):
-    """Whether this fault is told. A holiday that cannot stand in a range of times is told as a word that is not read."""
-    if found != (None, fault) and fault.startswith("Unexpected at ") and text[int(fault[14:]):][:2] in ("PH", "SH"):
-        return found == (None, "Unsupported" + fault[10:])
-    return found == (None, fault)
-
-
 def check_drawn(chance, folder):
     """A drawn text, table and years. Answers whether there is a domain to compare."""
     rows, years = drawn_table(chance)
@@ -140,7 +133,7 @@ def check_drawn(chance, folder):
     broken = damaged(text, chance)
     for candidate, table, asked in ((broken, path, years), (text, "", years), (text, path, "")):
         fault, found = fault_of(candidate, rows if table else None, asked), run(candidate, table, asked)
-        same = found[0] is not None or found[1] == "TooMany at 0" if fault is None else is_told(found, fault, candidate)
+        same = found[0] is not None or found[1] == "TooMany at 0" if fault is None else found == (None, fault)
         expect(same, f"{candidate!r} {years}: {found}, by the model {fault}")
     domain, said = run(text, path, years)
     fault = fault_of(text, rows, years)

@@ -1,6 +1,6 @@
 #!/usr/bin/env python3
 """A plain model of texts of opening hours that are written loosely, from docs/HOURS.md alone: the strict text, the warnings, and
-the first fault, by tests/hours_model.py."""
+the first fault, by tests/hours_model.py or a model that reads more."""
 import re
 from typing import NamedTuple
 
@@ -20,7 +20,10 @@ NAMES |= {name.lower(): english[:2] for name, english in zip(GERMAN, ENGLISH)}
 NAMES |= {name.lower(): name[:3] for name in MONTHS} | {name[:3].lower(): name[:3] for name in MONTHS}
 NAMES |= {name.lower(): month for month, others in OTHER_MONTHS.items() for name in others.split()}
 
-BEGINS_HOURS = "time open on off closed sunrise sunset dawn dusk".split()
+BEGINS_MOMENT = "time sunrise sunset dawn dusk (".split()
+BEGINS_HOURS = [*BEGINS_MOMENT, "open", "on", "off", "closed"]
+MOMENT = r"(?:time |sunrise |sunset |dawn |dusk |\( (?:(?:sunrise|sunset|dawn|dusk|time|[+-]) )*\) )"
+RANGE = re.compile(f".*{MOMENT}- {MOMENT}")
 SPACES = re.compile("[\u00a0\u202f\t]")
 CLOCK = re.compile(r"([0-9]{1,2})(?:(?::([0-9]{2})(?![0-9])(?!:[0-9]))|(?:\.([0-9]{2})(?![0-9])(?!\.[0-9]))"
                    r"|(?:[hH]([0-9]{2})?(?![0-9A-Za-z])))(?: *([AaPp])[Mm](?![A-Za-z]))?( *[Uu][Hh][Rr](?![A-Za-z]))?")
@@ -28,7 +31,8 @@ HALF = re.compile(r"([0-9]{1,2})(?![0-9])()()() *([AaPp])[Mm](?![A-Za-z])( *[Uu]
 NUMBER = re.compile(r"[0-9]{1,4}(?![0-9])(?!:[0-9])")
 WORD = re.compile(r"[A-Za-z]+")
 DASH = re.compile("[-\u2010-\u2014\u2212]")
-SIGN = re.compile(r'[,;/:\[\]+]|\|\||"[^"]*"?')
+SIGN = re.compile(r'[,;/:\[\]()+]|\|\||"[^"]*"?')
+QUOTED = re.compile('[\u201c-\u201e]([^\u201c-\u201e"]*)([\u201c-\u201e"]?)')
 
 
 class Part(NamedTuple):
@@ -74,6 +78,9 @@ def part_at(text, at, place, german):
         found = pattern.match(text, at)
         if found:
             return Part(found[0], place, clock(found, place))
+    found = QUOTED.match(text, at)
+    if found:
+        return Part(found[0], place, '"' + found[1] + '"' * bool(found[2]))
     for pattern, form in ((NUMBER, None), (DASH, "-"), (SIGN, None)):
         found = pattern.match(text, at)
         if found:
@@ -139,7 +146,7 @@ def mended(text, german=False):
             if later[0] in BEGINS_HOURS or later[0].startswith('"'):
                 out.append(part._replace(form=""))
                 continue
-        if here == "time" and before[-3:] == ["time", "-", "time"]:
+        if here in BEGINS_MOMENT and RANGE.fullmatch("".join(f"{other} " for other in before)):
             out.append(Part("", part.place, ","))
         kept.append(part)
         out.append(part)
@@ -155,16 +162,16 @@ def warnings(parts):
     return [("Loose", part.place, "a space" if part.form == " " else part.form) for part in parts if part.form != part.written]
 
 
-def read(text, german=False):
-    """The rules that a text stands for, and its warnings; or its first fault."""
+def read(text, german=False, reader=hours_model.read):
+    """The rules that a text stands for, and its warnings; or its first fault. Strict texts are read by the reader."""
     try:
-        return hours_model.read(text), []
+        return reader(text), []
     except hours_model.Fault:
         pass
     parts = mended(text, german)
     strict = strict_text(parts).encode("utf-8", "surrogateescape")
     try:
-        return hours_model.read(strict), warnings(parts)
+        return reader(strict), warnings(parts)
     except hours_model.Fault as fault:
         start = 0
         for part in parts:

@@ -172,16 +172,6 @@ def warnings(text, rules, years):
     return [line for _, _, line in sorted(told)]
 
 
-def is_unread(rules):
-    """Whether an open fallback rule stands behind a closed rule, which is not read."""
-    closed = False
-    for rule in rules:
-        if rule.link == "||" and rule.opens and closed:
-            return True
-        closed = closed or rule.says == "closed"
-    return False
-
-
 def state(rules, second):
     """Whether a second is open (True), said to be closed (False), or nothing is said of it (None)."""
     minute, today = second // 60 % DAY, hours_model.EPOCH + hours_model.ONE_DAY * (second // 60 // DAY)

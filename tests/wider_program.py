@@ -116,14 +116,13 @@ def damaged(text, chance):
     return chance.choice((text[:at], text[:at] + chance.choice(WORDS) + text[at:], text[:at] + " " + chance.choice(WORDS)))
 
 
-def is_same(found, rules, fault, text):
-    """Whether the program has the fault of the model, or none. An open fallback rule behind a closed one it does not read, a word
-    that cannot stand in a range of times is not read, and there a comment that does not end is told behind another fault."""
+def is_same(found, fault, text):
+    """Whether the program has the fault of the model, or none. Where a comment that does not end stands in a range of times, it is
+    told behind another fault."""
     if fault is None:
-        unread = wider_model.is_unread(rules) and found[1].startswith("Unsupported at ")
-        return found[0] is not None or found[1] == "TooMany at 0" or unread
+        return found[0] is not None or found[1] == "TooMany at 0"
     in_times = fault.startswith("BadToken at ") and text[int(fault[12:]):][:1] == '"'
-    return found == (None, fault) or found[0] is None and (found[1].startswith("Unsupported at ") or in_times)
+    return found == (None, fault) or found[0] is None and in_times
 
 
 def check_seconds(chance, name, rules, domain, first):
@@ -143,10 +142,10 @@ def check_drawn(chance, folder):
     for candidate, table, asked in ((broken, path, years), (text, "", years), (text, path, "")):
         found = run(candidate, table, asked, options)
         rules, fault = read(candidate, rows if table else None, asked, options)
-        expect(is_same(found, rules, fault, candidate), f"{candidate!r} {years} {options}: {found}, by the model {fault}")
+        expect(is_same(found, fault, candidate), f"{candidate!r} {years} {options}: {found}, by the model {fault}")
     domain, said = run(text, path, years, options)
     rules, fault = read(text, rows, years, options)
-    expect(is_same((domain, said), rules, fault, text), f"{text!r} {years} {options}: {said}, by the model {fault}")
+    expect(is_same((domain, said), fault, text), f"{text!r} {years} {options}: {said}, by the model {fault}")
     if domain is None:
         return False
     expect(without_hides(said) == warned(text, rules, years), f"{text!r}: {said!r}, by the model {warned(text, rules, years)!r}")

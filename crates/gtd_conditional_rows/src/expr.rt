@@ -28,20 +28,6 @@ pub(crate) fn every_day() -> Expr
     }
 }
 
-// A copy of an expression.
-pub(crate) fn copied(alloc: Global, expr: &Expr) -> Result<Expr, AllocError>
-    ensures { IfOk result (λ copy. tree_of copy ≡ tree_of expr.now) }
-{
-    match expr {
-        Expr::Leaf(basic) => Ok(Expr::Leaf(*basic)),
-        Expr::Join(op, left, right) => {
-            let left = copied(alloc, left)?;
-            let right = copied(alloc, right)?;
-            joined(alloc, *op, left, right)
-        }
-    }
-}
-
 // The two, joined.
 pub(crate) fn joined(alloc: Global, op: Op, left: Expr, right: Expr) -> Result<Expr, AllocError>
     ensures { IfOk result (λ e. tree_of e ≡ Joined op (tree_of left) (tree_of right)) }

@@ -7,10 +7,11 @@ ghost use Rattle.gtd_conditional_rows.specs.Times as spec;
 ghost use Rattle.gtd_conditional_rows.specs.Times.{Never, leaves_in, times_after, times_by, times_of};
 ghost use Rattle.gtd_conditional_rows.specs.Types.{HasType};
 
-use crate::expr::{copied, every_day, joined};
+use crate::expr::{every_day, joined};
 use crate::step::Step;
 use gtd_conditional_means::Access;
 use gtd_core::{Domain, Expr, Op};
+use gtd_hours_leaves::copied;
 use std::alloc::{AllocError, Global};
 
 // Never, always, or at the seconds of an expression.

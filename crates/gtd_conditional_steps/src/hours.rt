@@ -12,22 +12,8 @@ use gtd_conditional_values::Term;
 use gtd_core::{Expr, Op};
 use gtd_hours::Hours;
 use gtd_hours_domain::{TranslationFault, domain_of};
-use gtd_hours_leaves::join;
+use gtd_hours_leaves::{copied, join};
 use std::alloc::{AllocError, Global};
-
-// A copy of an expression.
-fn copied(alloc: Global, expr: &Expr) -> Result<Expr, AllocError>
-    ensures { IfOk result (λ copy. tree_of copy ≡ tree_of expr.now) }
-{
-    match expr {
-        Expr::Leaf(basic) => Ok(Expr::Leaf(*basic)),
-        Expr::Join(op, left, right) => {
-            let left = copied(alloc, left)?;
-            let right = copied(alloc, right)?;
-            Ok(Expr::Join(*op, Box::new(alloc, left)?, Box::new(alloc, right)?))
-        }
-    }
-}
 
 // The seconds at which hours are open.
 fn seconds_of(alloc: Global, hours: &Hours) -> Result<Expr, StepsFault>

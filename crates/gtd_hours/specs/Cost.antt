@@ -1,5 +1,5 @@
 -- How many basic domains the translation of opening hours has.
-use Rattle.std.specs.Prelude.{ℕ, ◌+◌, ◌-◌, ◌/◌, ◌==◌, ◌&&◌, ◌||◌, ◌≤◌, ◌≢◌, ◌⊎◌, not, Bool, nat_lt, nat_le}
+use Rattle.std.specs.Prelude.{ℕ, ◌+◌, ◌-◌, ◌/◌, ◌==◌, ◌&&◌, ◌||◌, ◌≤◌, ◌≢◌, ◌⊎◌, not, Bool, true, false, nat_lt, nat_le}
 use Rattle.std.specs.Prelude.{if◌then◌else◌, max, min}
 use Rattle.std.specs.Prelude.{List, [], ◌∷◌}
 use Rattle.gtd_hours.specs.Moving.{days_on, end_days, months_between}
@@ -12,7 +12,7 @@ use Rattle.gtd_hours.specs.declared.hours.MonthDay.{MonthDay}
 use Rattle.gtd_hours.specs.declared.hours.Kind.{Kind}
 use Rattle.gtd_hours.specs.declared.hours.TimeRange.{TimeRange}
 use Rattle.gtd_hours.specs.declared.hours.Link.{Link}
-use Rattle.gtd_hours.specs.declared.hours.Link.TheVariants.{Instead, Also}
+use Rattle.gtd_hours.specs.declared.hours.Link.TheVariants.{Instead, Also, Fallback}
 use Rattle.gtd_hours.specs.declared.hours.Modifier.{Modifier}
 use Rattle.gtd_hours.specs.declared.hours.Modifier.TheVariants.{Open, Closed}
 use Rattle.gtd_hours.specs.declared.hours.Rule.{Rule}
@@ -124,17 +124,52 @@ spans_cost days (t ∷ ts) =
 abbrev pub rule_cost : Rule → ℕ
 rule_cost rule = spans_cost (days_cost rule.kinds.items) rule.times.items
 
--- what is open after a rule, if what was open before it takes n: where nothing was open, nothing is taken away
-abbrev pub cost_by : Modifier → Link → Rule → ℕ → ℕ
-cost_by Closed link rule n = if n == 0 then 0 else n + rule_cost rule
-cost_by Open Also rule n = n + rule_cost rule
-cost_by Open Instead rule n = if n == 0 then rule_cost rule else n + days_cost rule.kinds.items + rule_cost rule
+-- What is open after a rule, if what was open before it takes n, and what was said to be closed takes c: nothing is taken away
+-- from where nothing was.
+abbrev pub open_cost_by : Modifier → Link → Rule → ℕ → ℕ → ℕ
+open_cost_by Open Instead rule n c = if n == 0 then rule_cost rule else n + days_cost rule.kinds.items + rule_cost rule
+open_cost_by Open Also rule n c = n + rule_cost rule
+open_cost_by Open Fallback rule n c = n + rule_cost rule + c
+open_cost_by Closed Instead rule n c = if n == 0 then 0 else n + rule_cost rule
+open_cost_by Closed Also rule n c = if n == 0 then 0 else n + rule_cost rule
+open_cost_by Closed Fallback rule n c = n
 
--- and after rules one after another
-abbrev pub cost_after : List Rule → ℕ → ℕ
-cost_after [] n = n
-cost_after (rule ∷ rules) n = cost_after rules (cost_by rule.modifier rule.link rule n)
+-- one of the ranges of times ends on a later day
+abbrev pub ends_late : List TimeRange → Bool
+ends_late [] = false
+ends_late (t ∷ ts) = not (nat_le (end_of t.begin t.last) 1440) || ends_late ts
+
+-- The days of a rule, without which its spans say nothing more, unless they end on a later day.
+abbrev pub unsaid_cost : Rule → ℕ
+unsaid_cost rule = days_cost rule.kinds.items + (if ends_late rule.times.items then rule_cost rule else 0)
+
+-- what is said to be closed after a rule
+abbrev pub closed_cost_by : Modifier → Link → Rule → ℕ → ℕ → ℕ
+closed_cost_by Open Instead rule n c = if c == 0 then 0 else c + unsaid_cost rule
+closed_cost_by Open Also rule n c = if c == 0 then 0 else c + rule_cost rule
+closed_cost_by Open Fallback rule n c = c
+closed_cost_by Closed Instead rule n c = c + rule_cost rule
+closed_cost_by Closed Also rule n c = c + rule_cost rule
+closed_cost_by Closed Fallback rule n c = c + rule_cost rule + n
+
+-- an open fallback rule
+abbrev pub falls_back : Modifier → Link → Bool
+falls_back Open Fallback = true
+falls_back Open Instead = false
+falls_back Open Also = false
+falls_back Closed link = false
+
+abbrev pub some_falls_back : List Rule → Bool
+some_falls_back [] = false
+some_falls_back (rule ∷ rules) = falls_back rule.modifier rule.link || some_falls_back rules
+
+-- After rules one after another. What is said to be closed is of use up to the last open fallback rule.
+abbrev pub cost_after : List Rule → ℕ → ℕ → ℕ
+cost_after [] n c = n
+cost_after (rule ∷ rules) n c =
+    cost_after rules (open_cost_by rule.modifier rule.link rule n c)
+    (if some_falls_back rules then closed_cost_by rule.modifier rule.link rule n c else 0)
 
 -- hours that are never open take one
 abbrev pub hours_cost : Hours → ℕ
-hours_cost hours = max 1 (cost_after hours.rules.items 0)
+hours_cost hours = max 1 (cost_after hours.rules.items 0 0)

@@ -1,4 +1,5 @@
--- When opening hours are open, in the terms of OpenStreetMap: rules, the days that they match, and the spans of these days.
+-- When opening hours are open, in the terms of OpenStreetMap: rules, the days that they match, and the spans of these days. Of
+-- each second it is said that it is open, that it is closed, or nothing.
 -- Days are numbered from 1970-01-01, and seconds from its beginning.
 use Rattle.std.specs.Prelude.{◌≡◌, ◌⊎◌, ℕ, ◌+◌, ◌-◌, ◌*◌, ◌%◌, ◌<◌, ◌≤◌, List, [], ◌∷◌, ℤ, pos, ◌+ℤ◌, ◌*ℤ◌, ◌≤ℤ◌, ◌<ℤ◌}
 use Rattle.gtd_core.specs.Limits.{day_seconds}
@@ -13,7 +14,7 @@ use Rattle.gtd_hours.specs.declared.hours.Selector.TheVariants.{Moved, Moving}
 use Rattle.gtd_hours.specs.declared.hours.Kind.{Kind}
 use Rattle.gtd_hours.specs.declared.hours.TimeRange.{TimeRange}
 use Rattle.gtd_hours.specs.declared.hours.Link.{Link}
-use Rattle.gtd_hours.specs.declared.hours.Link.TheVariants.{Instead, Also}
+use Rattle.gtd_hours.specs.declared.hours.Link.TheVariants.{Instead, Also, Fallback}
 use Rattle.gtd_hours.specs.declared.hours.Modifier.{Modifier}
 use Rattle.gtd_hours.specs.declared.hours.Modifier.TheVariants.{Open, Closed}
 use Rattle.gtd_hours.specs.declared.hours.Rule.{Rule}
@@ -85,18 +86,36 @@ InSpans kinds times s = (n : ℤ) × Matches kinds n × IsTimeOn times n s
 abbrev pub IsOnMatch : List Kind → ℤ → Type 0
 IsOnMatch kinds s = (n : ℤ) × IsOnDay s n × Matches kinds n
 
--- the second is open after a rule, given whether it was open before it
-abbrev pub IsOpenBy : Modifier → Link → Rule → Type 0 → ℤ → Type 0
-IsOpenBy Closed link rule before s = before × (InSpans rule.kinds.items rule.times.items s → ⊥)
-IsOpenBy Open Also rule before s = before ⊎ InSpans rule.kinds.items rule.times.items s
-IsOpenBy Open Instead rule before s =
-    (before × (IsOnMatch rule.kinds.items s → ⊥)) ⊎ InSpans rule.kinds.items rule.times.items s
+-- The second is open after a rule, given whether it was open, or said to be closed, before it. A fallback rule speaks of what
+-- nothing is said of.
+abbrev pub IsOpenBy : Modifier → Link → Rule → Type 0 → Type 0 → ℤ → Type 0
+IsOpenBy Open Instead rule WasOpen WasClosed s =
+    (WasOpen × (IsOnMatch rule.kinds.items s → ⊥)) ⊎ InSpans rule.kinds.items rule.times.items s
+IsOpenBy Open Also rule WasOpen WasClosed s = WasOpen ⊎ InSpans rule.kinds.items rule.times.items s
+IsOpenBy Open Fallback rule WasOpen WasClosed s =
+    WasOpen ⊎ (InSpans rule.kinds.items rule.times.items s × (WasClosed → ⊥))
+IsOpenBy Closed Instead rule WasOpen WasClosed s = WasOpen × (InSpans rule.kinds.items rule.times.items s → ⊥)
+IsOpenBy Closed Also rule WasOpen WasClosed s = WasOpen × (InSpans rule.kinds.items rule.times.items s → ⊥)
+IsOpenBy Closed Fallback rule WasOpen WasClosed s = WasOpen
 
--- and after the rules one after another
-abbrev pub IsOpenAfter : List Rule → Type 0 → ℤ → Type 0
-IsOpenAfter [] before s = before
-IsOpenAfter (rule ∷ rules) before s = IsOpenAfter rules (IsOpenBy rule.modifier rule.link rule before s) s
+-- and whether it is said to be closed
+abbrev pub IsClosedBy : Modifier → Link → Rule → Type 0 → Type 0 → ℤ → Type 0
+IsClosedBy Open Instead rule WasOpen WasClosed s =
+    WasClosed × (IsOnMatch rule.kinds.items s → ⊥) × (InSpans rule.kinds.items rule.times.items s → ⊥)
+IsClosedBy Open Also rule WasOpen WasClosed s = WasClosed × (InSpans rule.kinds.items rule.times.items s → ⊥)
+IsClosedBy Open Fallback rule WasOpen WasClosed s = WasClosed
+IsClosedBy Closed Instead rule WasOpen WasClosed s = WasClosed ⊎ InSpans rule.kinds.items rule.times.items s
+IsClosedBy Closed Also rule WasOpen WasClosed s = WasClosed ⊎ InSpans rule.kinds.items rule.times.items s
+IsClosedBy Closed Fallback rule WasOpen WasClosed s =
+    WasClosed ⊎ (InSpans rule.kinds.items rule.times.items s × (WasOpen → ⊥))
 
--- the hours are open at the second: nothing is open before the first rule
+-- the second is open after the rules one after another
+abbrev pub IsOpenAfter : List Rule → Type 0 → Type 0 → ℤ → Type 0
+IsOpenAfter [] WasOpen WasClosed s = WasOpen
+IsOpenAfter (rule ∷ rules) WasOpen WasClosed s =
+    IsOpenAfter rules (IsOpenBy rule.modifier rule.link rule WasOpen WasClosed s)
+    (IsClosedBy rule.modifier rule.link rule WasOpen WasClosed s) s
+
+-- the hours are open at the second: nothing is said of it before the first rule
 abbrev pub IsOpen : Hours → ℤ → Type 0
-IsOpen hours s = IsOpenAfter hours.rules.items ⊥ s
+IsOpen hours s = IsOpenAfter hours.rules.items ⊥ ⊥ s

@@ -1,7 +1,8 @@
--- Which hours can be written in the syntax of OpenStreetMap.
+-- Which hours can be written in the syntax of OpenStreetMap without fallback rules.
 use Rattle.std.specs.Prelude.{◌≡◌, Bool, true, false, List, [], ◌∷◌, ◌++◌, nat_lt}
 use Rattle.std.specs.List.{list_all}
 use Rattle.gtd_hours.specs.declared.hours.Kind.{Kind}
+use Rattle.gtd_hours.specs.declared.hours.Link.{Link}
 use Rattle.gtd_hours.specs.declared.hours.Link.TheVariants as link
 use Rattle.gtd_hours.specs.declared.hours.Hours.{Hours}
 use Rattle.gtd_hours.specs.declared.hours.Rule.{Rule}
@@ -44,9 +45,16 @@ abbrev pub kind_if : List Selector → List (List Selector)
 kind_if [] = []
 kind_if (x ∷ xs) = (x ∷ xs) ∷ []
 
--- A rule can be written if its kinds are, in this order, years, month days, weeks and weekdays: each at most once, and none
--- without selectors.
+-- a fallback rule
+abbrev pub is_fallback : Link → Bool
+is_fallback link.Instead = false
+is_fallback link.Also = false
+is_fallback link.Fallback = true
+
+-- A rule can be written if it is no fallback rule, and its kinds are, in this order, years, month days, weeks and weekdays: each
+-- at most once, and none without selectors.
 pub record IsWritableRule (rule : Rule) : Type 0 where
+  pub no_fallback : is_fallback rule.link ≡ false
   pub years : List Selector
   pub month_days : List Selector
   pub weeks : List Selector

@@ -13,7 +13,7 @@ use Rattle.gtd_hours.specs.declared.hours.YearDate.{YearDate}
 use Rattle.gtd_hours.specs.declared.hours.Kind.{Kind}
 use Rattle.gtd_hours.specs.declared.hours.TimeRange.{TimeRange}
 use Rattle.gtd_hours.specs.declared.hours.Link.{Link}
-use Rattle.gtd_hours.specs.declared.hours.Link.TheVariants.{Instead, Also}
+use Rattle.gtd_hours.specs.declared.hours.Link.TheVariants.{Instead, Also, Fallback}
 use Rattle.gtd_hours.specs.declared.hours.Modifier.{Modifier}
 use Rattle.gtd_hours.specs.declared.hours.Modifier.TheVariants.{Open, Closed}
 use Rattle.gtd_hours.specs.declared.hours.Rule.{Rule}
@@ -171,6 +171,7 @@ is_some_time (time ∷ times) = true
 abbrev pub is_also : Link → Bool
 is_also Instead = false
 is_also Also = true
+is_also Fallback = false
 
 -- the selectors and the times of a rule; where it has neither, all days are meant
 abbrev pub spans_text : List Kind → List TimeRange → List ℕ
@@ -204,6 +205,7 @@ rule_text rule rules = spans_text rule.kinds.items rule.times.items ++ modifier_
 abbrev pub link_text : Link → List ℕ
 link_text Instead = codes "; "
 link_text Also = codes ", "
+link_text Fallback = codes " || "
 
 abbrev pub more_rules_text : List Rule → List ℕ
 more_rules_text [] = []

@@ -152,6 +152,8 @@ pub enum Link {
     Instead,
     /// A rule after `,`: if it is open, it is added.
     Also,
+    /// A rule after `||`: it speaks of the seconds of its spans of which nothing is said.
+    Fallback,
 }
 
 /// What a rule says of its spans.
@@ -159,7 +161,7 @@ pub enum Link {
 pub enum Modifier {
     /// `open`, `on`, or no word: its spans are open.
     Open,
-    /// `closed`, `off`: its spans are not open.
+    /// `closed`, `off`: its spans are said to be closed.
     Closed,
 }
 

@@ -20,7 +20,7 @@ use std::alloc::{AllocError, Global};
 
 /// The text of the hours, or an error if memory was refused.
 ///
-/// Rules have `; ` or `, ` before them, as their links say, kinds of selectors and times a space, and a closed rule ends in
+/// Rules have `; `, `, ` or ` || ` before them, as their links say, kinds of selectors and times a space, and a closed rule ends in
 /// ` off`. An open rule ends in ` open` only where the comma of the next rule would else go on with its times or selectors. A
 /// rule without selectors and times begins with `24/7`.
 pub fn print_hours(alloc: Global, hours: &Hours) -> Result<String, AllocError>
@@ -61,6 +61,7 @@ fn push_link(out: &mut String, link: Link) -> Result<(), AllocError>
     match link {
         Link::Instead => out.push_str("; "),
         Link::Also => out.push_str(", "),
+        Link::Fallback => out.push_str(" || "),
     }
 }
 
@@ -93,8 +94,8 @@ fn needs_word(rule: &Rule, more: &[Rule]) -> bool
     match more.first() {
         None => false,
         Some(next) => match next.link {
-            Link::Instead => false,
             Link::Also => goes_into(rule, next),
+            Link::Instead | Link::Fallback => false,
         },
     }
 }

@@ -1,14 +1,16 @@
 -- What is counted, and how many basic domains joins have.
-use Rattle.std.proofs.Common.{◌≡◌, length, Bool, true, false, ℕ, zero, suc, ◌+◌, ◌≤◌, ◌==◌, cond, nat_le, refl, ◌∙◌}
-use Rattle.std.proofs.Common.{arith, List, [], ◌∷◌}
+use Rattle.std.proofs.Common.{◌≡◌, length, Bool, true, false, ℕ, zero, suc, ◌+◌, ◌-◌, ◌≤◌, ◌==◌, ◌||◌, ap, cond, nat_le, nat_lt}
+use Rattle.std.proofs.Common.{arith, refl, ◌∙◌, List, [], ◌∷◌}
 use Rattle.std.proofs.Math.Dec.{eqb-suc-zero}
-use Rattle.gtd_hours.specs.Cost.{cost_after, cost_by, counted, days_cost, early_cost, late_cost, most_counted}
-use Rattle.gtd_hours.specs.Cost.{rule_cost, spans_cost}
+use Rattle.std.proofs.lemmas.Bool.{lt-ltb, ltb-false}
+use Rattle.gtd_hours.specs.Cost.{closed_cost_by, cost_after, counted, days_cost, early_cost, late_cost, most_counted}
+use Rattle.gtd_hours.specs.Cost.{falls_back, open_cost_by, rule_cost, some_falls_back, spans_cost, unsaid_cost}
+use Rattle.gtd_hours_domain.specs.Translation.{up_to_fallback}
 use Rattle.gtd_hours.specs.Ranges.{end_of}
 use Rattle.gtd_hours.specs.declared.hours.TimeRange.{TimeRange}
 use Rattle.gtd_hours.specs.declared.hours.Rule.{Rule}
 use Rattle.gtd_hours.specs.declared.hours.Link.{Link}
-use Rattle.gtd_hours.specs.declared.hours.Link.TheVariants.{Instead, Also}
+use Rattle.gtd_hours.specs.declared.hours.Link.TheVariants.{Instead, Also, Fallback}
 use Rattle.gtd_hours.specs.declared.hours.Modifier.{Modifier}
 use Rattle.gtd_hours.specs.declared.hours.Modifier.TheVariants.{Open, Closed}
 
@@ -45,38 +47,125 @@ spans-counted d (t ∷ ts) =
     one true d e = refl
     one false d e = omega arith
 
-by-same : (m : Modifier) (l : Link) (r : Rule) (a b : ℕ) → counted a ≡ counted b
-    → counted (cost_by m l r a) ≡ counted (cost_by m l r b)
-by-same Closed l r zero zero e = refl
-by-same Closed l r zero (suc b) e = absurd (omega (arith, e))
-by-same Closed l r (suc a) zero e = absurd (omega (arith, e))
-by-same Closed l r (suc a) (suc b) e =
-    rw (eqb-suc-zero a, eqb-suc-zero b) (sum (suc a) (rule_cost r) (suc b) (rule_cost r) e refl)
-by-same Open Also r a b e = sum a (rule_cost r) b (rule_cost r) e refl
-by-same Open Instead r zero zero e = refl
-by-same Open Instead r zero (suc b) e = absurd (omega (arith, e))
-by-same Open Instead r (suc a) zero e = absurd (omega (arith, e))
-by-same Open Instead r (suc a) (suc b) e =
-    rw (eqb-suc-zero a, eqb-suc-zero b)
-    (sum (suc a + days_cost r.kinds.items) (rule_cost r) (suc b + days_cost r.kinds.items) (rule_cost r)
-    (sum (suc a) (days_cost r.kinds.items) (suc b) (days_cost r.kinds.items) e refl) refl)
+-- ---- open fallback rules to come
 
-pub after-same : (rules : List Rule) (a b : ℕ) → counted a ≡ counted b
-    → counted (cost_after rules a) ≡ counted (cost_after rules b)
-after-same [] a b e = e
-after-same (r ∷ rules) a b e = after-same rules _ _ (by-same r.modifier r.link r a b e)
+lt-some : (n : ℕ) → nat_lt 0 (n + 1) ≡ true
+lt-some n = lt-ltb 0 (n + 1) (omega arith)
+
+none : (n : ℕ) → nat_lt 0 n ≡ false → 0 ≡ n
+none n e = omega (arith, ltb-false 0 n e)
+
+-- rules up to the last open fallback rule are some exactly if there is one
+pub asked-left : (rules : List Rule) → nat_lt 0 (up_to_fallback rules) ≡ some_falls_back rules
+asked-left [] = refl
+asked-left (r ∷ rules) = by (falls_back r.modifier r.link) (some_falls_back rules) (up_to_fallback rules) (asked-left rules)
+  where
+    by : (f s : Bool) (n : ℕ) → nat_lt 0 n ≡ s → nat_lt 0 (cond s (n + 1) (cond f 1 0)) ≡ (f || s)
+    by true true n e = lt-some n
+    by true false n e = refl
+    by false true n e = lt-some n
+    by false false n e = refl
+
+-- so where there is none they are none
+pub up-or-none : (rules : List Rule) → cond (some_falls_back rules) (0 + up_to_fallback rules) 0 ≡ up_to_fallback rules
+up-or-none rules = by (some_falls_back rules) (up_to_fallback rules) (asked-left rules)
+  where
+    by : (s : Bool) (n : ℕ) → nat_lt 0 n ≡ s → cond s (0 + n) 0 ≡ n
+    by true n e = omega arith
+    by false n e = none n e
+
+-- one fewer behind each rule
+pub left-behind : (r : Rule) (rules : List Rule) → up_to_fallback (r ∷ rules) - 1 ≡ up_to_fallback rules
+left-behind r rules = by (falls_back r.modifier r.link) (some_falls_back rules) (up_to_fallback rules) (asked-left rules)
+  where
+    by : (f s : Bool) (n : ℕ) → nat_lt 0 n ≡ s → cond s (n + 1) (cond f 1 0) - 1 ≡ n
+    by f true n e = omega arith
+    by true false n e = none n e
+    by false false n e = none n e
+
+-- ---- what rules cost
+
+-- nothing stays nothing, and else more is added
+some-same : (a b x : ℕ) → counted a ≡ counted b → counted (cond (a == 0) 0 (a + x)) ≡ counted (cond (b == 0) 0 (b + x))
+some-same zero zero x e = refl
+some-same zero (suc b) x e = absurd (omega (arith, e))
+some-same (suc a) zero x e = absurd (omega (arith, e))
+some-same (suc a) (suc b) x e = rw (eqb-suc-zero a, eqb-suc-zero b) (sum (suc a) x (suc b) x e refl)
+
+instead-same : (a b d x : ℕ) → counted a ≡ counted b
+    → counted (cond (a == 0) x (a + d + x)) ≡ counted (cond (b == 0) x (b + d + x))
+instead-same zero zero d x e = refl
+instead-same zero (suc b) d x e = absurd (omega (arith, e))
+instead-same (suc a) zero d x e = absurd (omega (arith, e))
+instead-same (suc a) (suc b) d x e =
+    rw (eqb-suc-zero a, eqb-suc-zero b) (sum (suc a + d) x (suc b + d) x (sum (suc a) d (suc b) d e refl) refl)
+
+open-same : (m : Modifier) (l : Link) (r : Rule) (a b c d : ℕ) → counted a ≡ counted b → counted c ≡ counted d
+    → counted (open_cost_by m l r a c) ≡ counted (open_cost_by m l r b d)
+open-same Open Instead r a b c d e f = instead-same a b (days_cost r.kinds.items) (rule_cost r) e
+open-same Open Also r a b c d e f = sum a (rule_cost r) b (rule_cost r) e refl
+open-same Open Fallback r a b c d e f =
+    sum (a + rule_cost r) c (b + rule_cost r) d (sum a (rule_cost r) b (rule_cost r) e refl) f
+open-same Closed Instead r a b c d e f = some-same a b (rule_cost r) e
+open-same Closed Also r a b c d e f = some-same a b (rule_cost r) e
+open-same Closed Fallback r a b c d e f = e
+
+closed-same : (m : Modifier) (l : Link) (r : Rule) (a b c d : ℕ) → counted a ≡ counted b → counted c ≡ counted d
+    → counted (closed_cost_by m l r a c) ≡ counted (closed_cost_by m l r b d)
+closed-same Open Instead r a b c d e f = some-same c d (unsaid_cost r) f
+closed-same Open Also r a b c d e f = some-same c d (rule_cost r) f
+closed-same Open Fallback r a b c d e f = f
+closed-same Closed Instead r a b c d e f = sum c (rule_cost r) d (rule_cost r) f refl
+closed-same Closed Also r a b c d e f = sum c (rule_cost r) d (rule_cost r) f refl
+closed-same Closed Fallback r a b c d e f =
+    sum (c + rule_cost r) a (d + rule_cost r) b (sum c (rule_cost r) d (rule_cost r) f refl) e
+
+if-same : (k : Bool) (a b : ℕ) → counted a ≡ counted b → counted (cond k a 0) ≡ counted (cond k b 0)
+if-same true a b e = e
+if-same false a b e = refl
+
+after-same : (rules : List Rule) (a b c d : ℕ) → counted a ≡ counted b → counted c ≡ counted d
+    → counted (cost_after rules a c) ≡ counted (cost_after rules b d)
+after-same [] a b c d e f = e
+after-same (r ∷ rules) a b c d e f =
+    after-same rules _ _ _ _ (open-same r.modifier r.link r a b c d e f)
+    (if-same (some_falls_back rules) _ _ (closed-same r.modifier r.link r a b c d e f))
+
+-- what is said to be closed after a rule, if it is asked for
+abbrev pub closed-if : Bool → Rule → ℕ → ℕ → ℕ
+closed-if asked r t c = cond asked (closed_cost_by r.modifier r.link r t c) 0
+
+-- one fewer is left behind each rule
+pub left-after : (k left : ℕ) (r : Rule) (rules rest : List Rule) → rest ≡ r ∷ rules → left ≡ up_to_fallback rest
+    → k ≡ left - 1 → k ≡ up_to_fallback rules
+left-after k left r rules rest same is less = less ∙ rw same at (ap (λ (n : ℕ). n - 1) is) ∙ left-behind r rules
+
+-- It is asked for if there is an open fallback rule behind the rule.
+pub asked-behind : (k left : ℕ) (r : Rule) (rules rest : List Rule) → rest ≡ r ∷ rules → left ≡ up_to_fallback rest → k ≡ left - 1
+    → nat_lt 0 k ≡ some_falls_back rules
+asked-behind k left r rules rest same is less =
+    ap (λ (n : ℕ). nat_lt 0 n) (left-after k left r rules rest same is less) ∙ asked-left rules
 
 -- one rule more
-pub one_more-cost : (t u n : ℕ) (r : Rule) (rules rest : List Rule) → rest ≡ r ∷ rules
-    → u ≡ counted (cost_by r.modifier r.link r t)
-    → counted (cost_after rest t) ≡ counted n → counted (cost_after rules u) ≡ counted n
-one_more-cost t u n r rules rest same one all =
-    let next = cost_by r.modifier r.link r t in
-    after-same rules u next (rw one (again next)) ∙ rw same at all
+pub one_more-cost : (t c u v n k left : ℕ) (r : Rule) (rules rest : List Rule) → rest ≡ r ∷ rules
+    → left ≡ up_to_fallback rest → k ≡ left - 1
+    → u ≡ counted (open_cost_by r.modifier r.link r t c) → v ≡ counted (closed-if (nat_lt 0 k) r t c)
+    → counted (cost_after rest t c) ≡ counted n → counted (cost_after rules u v) ≡ counted n
+one_more-cost t c u v n k left r rules rest same is less one two all =
+    let next = open_cost_by r.modifier r.link r t c in
+    let later = closed-if (some_falls_back rules) r t c in
+    let asked : v ≡ counted later =
+    two ∙ ap (λ (b : Bool). counted (closed-if b r t c)) (asked-behind k left r rules rest same is less) in
+    after-same rules u next v later (rw one (again next)) (rw asked (again later)) ∙ rw same at all
 
-pub leaves-after : (t u n : ℕ) (r : Rule) (rules rest : List Rule) → rest ≡ r ∷ rules → u ≡ cost_by r.modifier r.link r t
-    → cost_after rest t ≡ n → cost_after rules u ≡ n
-leaves-after t u n r rules rest same one all = rw one (rw same at all)
+pub leaves-after : (t c u v n k left : ℕ) (r : Rule) (rules rest : List Rule) → rest ≡ r ∷ rules
+    → left ≡ up_to_fallback rest → k ≡ left - 1
+    → u ≡ open_cost_by r.modifier r.link r t c → v ≡ closed-if (nat_lt 0 k) r t c
+    → cost_after rest t c ≡ n → cost_after rules u v ≡ n
+leaves-after t c u v n k left r rules rest same is less one two all =
+    let asked : v ≡ closed-if (some_falls_back rules) r t c =
+    two ∙ ap (λ (b : Bool). closed-if b r t c) (asked-behind k left r rules rest same is less) in
+    rw (one, asked) (rw same at all)
 
 -- what takes one at least is not nothing
 pub some-early : (l d k e : ℕ) → 1 ≤ k → k ≡ e → l ≡ d + k → l ≡ cond (e == 0) 0 (d + e)
@@ -90,6 +179,16 @@ some-open l (suc a) x le e = rw (eqb-suc-zero a) e
 pub some-instead : (l a d x : ℕ) → 1 ≤ a → l ≡ a + d + x → l ≡ cond (a == 0) x (a + d + x)
 some-instead l zero d x le e = absurd (omega (arith, le))
 some-instead l (suc a) d x le e = rw (eqb-suc-zero a) e
+
+pub some-unsaid : (o k l d x : ℕ) → 1 ≤ l → k ≡ l + d → o ≡ cond (k == 0) 0 (k + x) → o ≡ cond (l == 0) 0 (l + (d + x))
+some-unsaid o k zero d x le same e = absurd (omega (arith, le))
+some-unsaid o zero (suc l) d x le same e = absurd (omega (arith, same))
+some-unsaid o (suc k) (suc l) d x le same e =
+    let f = rw (eqb-suc-zero k) at e in rw (eqb-suc-zero l) (omega (arith, same, f))
+
+pub some-kept : (k l d : ℕ) → 1 ≤ l → k ≡ l + d → k ≡ cond (l == 0) 0 (l + (d + 0))
+some-kept k zero d le e = absurd (omega (arith, le))
+some-kept k (suc l) d le e = rw (eqb-suc-zero l) (omega (arith, e))
 
 -- one range more that ends on a later day
 pub late-leaves : (v u n d : ℕ) (t : TimeRange) (ts rest : List TimeRange) → rest ≡ t ∷ ts

@@ -6,5 +6,6 @@ pub mod MonthLemmas
 pub mod MovingLemmas
 pub mod PlaceLemmas
 pub mod RangeLemmas
+pub mod SaidLemmas
 pub mod SpanLemmas
 pub mod StretchLemmas

@@ -8,7 +8,7 @@ use Rattle.gtd_calendar.specs.facts.ClockLemmas.{second-parts, second-only}
 use Rattle.std.proofs.lemmas.Bool.{cases_lt, eqb-true, false≢true}
 use Rattle.gtd_hours_domain.specs.Translation.{SomeEarly, SomeLate}
 use Rattle.gtd_hours_leaves.specs.Leaves.{moved_day, moved_place}
-use Rattle.gtd_hours.specs.Opening.{InSpans, IsBetween, IsOnMatch, IsOpenAfter, IsOpenBy, Matches, SomeTime}
+use Rattle.gtd_hours.specs.Opening.{InSpans, IsBetween, IsOnMatch, Matches, SomeTime}
 use Rattle.gtd_hours.specs.Ranges.{end_of}
 use Rattle.gtd_hours.specs.declared.hours.Kind.{Kind}
 use Rattle.gtd_hours.specs.declared.hours.TimeRange.{TimeRange}
@@ -65,21 +65,6 @@ whole-days days s =
 -- without a clock nothing is moved
 pub unmoved : (s : ℤ) → moved_day 0 s ≡ day_of_second s
 unmoved s = let same : s -ℤ pos (60 * 0) ≡ s = omega (arith, signed_arith) in rw same refl
-
--- what a rule makes of a set, it makes of each set with the same seconds
-pub open_by-same : (modifier : Modifier) (link : Link) (rule : Rule) (P Q : Type 0) (s : ℤ) → P ↔ Q
-    → IsOpenBy modifier link rule P s ↔ IsOpenBy modifier link rule Q s
-open_by-same Closed link rule P Q s h = ((λ x. (h.0 x.0, x.1)), (λ x. (h.1 x.0, x.1)))
-open_by-same Open Also rule P Q s h =
-    ((λ x. elim x [ inl p ↦ inl (h.0 p) | inr r ↦ inr r ]), (λ x. elim x [ inl p ↦ inl (h.1 p) | inr r ↦ inr r ]))
-open_by-same Open Instead rule P Q s h = (
-  (λ x. elim x [ inl p ↦ inl (h.0 p.0, p.1) | inr r ↦ inr r ]),
-  (λ x. elim x [ inl p ↦ inl (h.1 p.0, p.1) | inr r ↦ inr r ]),
-)
-
-pub open_after-same : (rules : List Rule) (P Q : Type 0) (s : ℤ) → P ↔ Q → IsOpenAfter rules P s ↔ IsOpenAfter rules Q s
-open_after-same [] P Q s h = h
-open_after-same (rule ∷ rules) P Q s h = open_after-same rules _ _ s (open_by-same rule.modifier rule.link rule P Q s h)
 
 -- days and minutes of each day together are the spans of a range
 pub spans-of : (e d k : Type 0) (days : ℤ → Type 0) (m a b long : ℕ) (s : ℤ) → (e ↔ (d × k)) → (d ↔ days (moved_day m s))
@@ -174,14 +159,6 @@ some_times e f g kinds (t ∷ ts) s some early late all = (
   ]))),
 )
 
--- one rule more
-pub one_more-rule : (u v r : Type 0) (rule : Rule) (rules rest : List Rule) (s : ℤ) → rest ≡ rule ∷ rules
-    → (v ↔ IsOpenBy rule.modifier rule.link rule u s) → (IsOpenAfter rest u s ↔ r) → (IsOpenAfter rules v s ↔ r)
-one_more-rule u v r rule rules rest s same one all =
-    let each = rw same at all in
-    let after = open_after-same rules v (IsOpenBy rule.modifier rule.link rule u s) s one in
-    ((λ h. each.0 (after.0 h)), (λ h. after.1 (each.1 h)))
-
 -- a second is on a day that matches if the day that is computed does
 pub on-match : (kinds : List Kind) (s : ℤ) → Matches kinds (day_of_second s) ↔ IsOnMatch kinds s
 unfolding day_of_second
@@ -193,14 +170,14 @@ on-match kinds s = (
     same : (s n : ℤ) → IsOnDay s n → day_of_second s ≡ n
     same s n on = omega (arith, signed_arith, on.0, on.1)
 
--- a rule that has its days for itself
-pub kept-days : (e k d b p : Type 0) (kinds : List Kind) (m : ℕ) (s : ℤ) → m ≡ 0 → (d ↔ Matches kinds (moved_day m s))
-    → (k ↔ (b × (d → ⊥))) → (e ↔ (k ⊎ p)) → e ↔ ((b × (IsOnMatch kinds s → ⊥)) ⊎ p)
-kept-days e k d b p kinds m s same on kept all =
+-- what was there, without the days of a rule
+pub kept-days : (k d b : Type 0) (kinds : List Kind) (m : ℕ) (s : ℤ) → m ≡ 0 → (d ↔ Matches kinds (moved_day m s))
+    → (k ↔ (b × (d → ⊥))) → k ↔ (b × (IsOnMatch kinds s → ⊥))
+kept-days k d b kinds m s same on kept =
     let here = rw (unmoved s) at (rw same at on) in
     let is = on-match kinds s in (
-      (λ h. elim (all.0 h) [ inl x ↦ let y = kept.0 x in inl (y.0, λ z. y.1 (here.1 (is.1 z))) | inr x ↦ inr x ]),
-      (λ h. all.1 (elim h [ inl x ↦ inl (kept.1 (x.0, λ z. x.1 (is.0 (here.0 z)))) | inr x ↦ inr x ])),
+      (λ h. let y = kept.0 h in (y.0, λ z. y.1 (here.1 (is.1 z)))),
+      (λ x. kept.1 (x.0, λ z. x.1 (is.0 (here.0 z)))),
     )
 
 pub or-same : (e b p q : Type 0) → (p ↔ q) → (e ↔ (b ⊎ p)) → e ↔ (b ⊎ q)

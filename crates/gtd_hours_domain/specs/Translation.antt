@@ -7,10 +7,12 @@ use Rattle.gtd_calendar.specs.Calendar.{weekday_of}
 use Rattle.gtd_calendar.specs.ComputedEnds.{months_later}
 use Rattle.gtd_calendar.specs.ComputedFields.{day_fields}
 use Rattle.gtd_hours.specs.ComputedPlaces.{end_day}
+use Rattle.gtd_hours.specs.Cost.{falls_back, some_falls_back}
 use Rattle.gtd_hours.specs.Moving.{end_days, leads_out, weeks_back}
 use Rattle.gtd_hours.specs.Opening.{EachHolds, IsBetween, SomeHolds}
 use Rattle.gtd_hours.specs.Ranges.{end_of}
 use Rattle.gtd_hours.specs.declared.hours.Kind.{Kind}
+use Rattle.gtd_hours.specs.declared.hours.Rule.{Rule}
 use Rattle.gtd_hours.specs.declared.hours.Selector.{Selector}
 use Rattle.gtd_hours.specs.declared.places.End.{End}
 use Rattle.gtd_hours.specs.declared.places.MovedPlace.{MovedPlace}
@@ -43,6 +45,14 @@ SomeLate (t ∷ ts) n s =
 abbrev pub IsMonthBetween : ℕ → ℕ → ℕ → Type 0
 IsMonthBetween first last month =
     ((first < month) × (month < last)) ⊎ ((last ≤ first) × ((first < month) ⊎ (month < last)))
+
+-- how many rules there are up to the last open fallback rule
+abbrev pub up_to_fallback : List Rule → ℕ
+up_to_fallback [] = 0
+up_to_fallback (rule ∷ rules) =
+    if some_falls_back rules then up_to_fallback rules + 1
+    else if falls_back rule.modifier rule.link then 1
+    else 0
 
 -- ---- places with days after or before them, and ranges that move
 

@@ -1,7 +1,9 @@
 //! How many basic domains the translation has, counted before memory is taken.
 
-ghost use Rattle.std.specs.Prelude.{◌≡◌, ◌+◌, ◌≤◌, max};
-ghost use Rattle.gtd_hours.specs.Cost.{cost_after, cost_by, counted, dates_cost, days_cost, early_cost, hours_cost, kinds_cost};
+ghost use Rattle.std.specs.Prelude.{◌≡◌, ◌+◌, ◌≤◌, ◌==◌, if◌then◌else◌, max};
+ghost use Rattle.gtd_hours.specs.Cost.{closed_cost_by, cost_after, counted, dates_cost, days_cost, early_cost, ends_late};
+ghost use Rattle.gtd_hours.specs.Cost.{falls_back, hours_cost, kinds_cost, open_cost_by, unsaid_cost};
+ghost use Rattle.gtd_hours_domain.specs.Translation.{up_to_fallback};
 ghost use Rattle.gtd_hours.specs.Cost.{late_cost, month_cost, moved_cost, moving_cost, rule_cost, selector_cost, selectors_cost};
 ghost use Rattle.gtd_hours.specs.Cost.{spans_cost};
 ghost use Rattle.gtd_hours.specs.Cost.{steps_cost, weeks_cost, years_cost};
@@ -207,36 +209,134 @@ fn rule_cost(rule: &Rule, days: u32) -> u32
     spans_cost(days, rule.times.as_slice())
 }
 
-// What is open after a rule, if what was open before it takes so many.
-fn cost_by(rule: &Rule, before: u32) -> u32
-    ensures { result ≡ counted (cost_by rule.now.modifier rule.now.link rule.now before) }
+/// Whether one of the ranges of times ends on a later day.
+pub(crate) fn ends_late(times: &[TimeRange]) -> bool
+    ensures { result ≡ ends_late times.now }
+{
+    let mut rest = times;
+    while let Some((time, more)) = rest.split_first() {
+        if !is_early(*time) {
+            return true;
+        }
+        rest = more;
+    }
+    false
+}
+
+// The days of a rule, and its spans if they end on a later day.
+fn unsaid_cost(rule: &Rule, days: u32, spans: u32) -> u32
+    requires days { days ≡ counted (days_cost rule.now.kinds.items) }
+    requires spans { spans ≡ counted (rule_cost rule.now) }
+    ensures { result ≡ counted (unsaid_cost rule.now) }
+{
+    if ends_late(rule.times.as_slice()) {
+        return add(days, spans);
+    }
+    days
+}
+
+fn is_fallback(rule: &Rule) -> bool
+    ensures { result ≡ falls_back rule.now.modifier rule.now.link }
+{
+    match rule.modifier {
+        Modifier::Open => match rule.link {
+            Link::Fallback => true,
+            Link::Instead => false,
+            Link::Also => false,
+        },
+        Modifier::Closed => false,
+    }
+}
+
+/// How many rules there are up to the last open fallback rule.
+pub(crate) fn up_to_fallback(rules: &[Rule]) -> usize
+    ensures { result ≡ up_to_fallback rules.now }
+{
+    let mut last = 0;
+    let mut passed = 0;
+    let mut rest = rules;
+    while let Some((rule, more)) = rest.split_first() {
+        passed += 1;
+        if is_fallback(rule) {
+            last = passed;
+        }
+        rest = more;
+    }
+    last
+}
+
+// Nothing, if there was nothing, or else more.
+fn if_some(before: u32, more: u32) -> u32
+    ensures { result ≡ (if before == 0 then 0 else counted (before + more)) }
+{
+    if before == 0 { 0 } else { add(before, more) }
+}
+
+// What is open after a rule, if what was open, and what was said to be closed, before it takes so many.
+fn open_cost_by(rule: &Rule, opened: u32, closed: u32) -> u32
+    ensures { result ≡ counted (open_cost_by rule.now.modifier rule.now.link rule.now opened closed) }
 {
     let days = days_cost(rule.kinds.as_slice());
     let spans = rule_cost(rule, days);
     match rule.modifier {
-        Modifier::Closed => { if before == 0 { 0 } else { add(before, spans) } }
         Modifier::Open => match rule.link {
-            Link::Also => add(before, spans),
-            Link::Instead => {
-                if before == 0 {
-                    spans
-                } else {
-                    add(add(before, days), spans)
-                }
-            }
+            Link::Instead => add(if_some(opened, days), spans),
+            Link::Also => add(opened, spans),
+            Link::Fallback => add(add(opened, spans), closed),
+        },
+        Modifier::Closed => match rule.link {
+            Link::Instead => if_some(opened, spans),
+            Link::Also => if_some(opened, spans),
+            Link::Fallback => opened,
         },
     }
+}
+
+// And what is said to be closed.
+fn closed_cost_by(rule: &Rule, opened: u32, closed: u32) -> u32
+    ensures { result ≡ counted (closed_cost_by rule.now.modifier rule.now.link rule.now opened closed) }
+{
+    let days = days_cost(rule.kinds.as_slice());
+    let spans = rule_cost(rule, days);
+    match rule.modifier {
+        Modifier::Open => match rule.link {
+            Link::Instead => if_some(closed, unsaid_cost(rule, days, spans)),
+            Link::Also => if_some(closed, spans),
+            Link::Fallback => closed,
+        },
+        Modifier::Closed => match rule.link {
+            Link::Instead => add(closed, spans),
+            Link::Also => add(closed, spans),
+            Link::Fallback => add(add(closed, spans), opened),
+        },
+    }
+}
+
+// What is said to be closed after a rule, if it is asked for.
+fn closed_cost_if(asked: bool, rule: &Rule, opened: u32, closed: u32) -> u32
+    ensures { result ≡ counted (if asked
+        then closed_cost_by rule.now.modifier rule.now.link rule.now opened closed else 0) }
+{
+    if asked {
+        return closed_cost_by(rule, opened, closed);
+    }
+    0
 }
 
 /// How many basic domains the translation of the hours has, or `u32::MAX` if there are more. No memory is taken.
 pub fn cost_of(hours: &Hours) -> u32
     ensures value { result ≡ counted (hours_cost hours.now) }
 {
-    let mut total = 0;
+    let mut opened = 0;
+    let mut closed = 0;
+    let mut left = up_to_fallback(hours.rules.as_slice());
     let mut rest = hours.rules.as_slice();
     while let Some((rule, more)) = rest.split_first() {
-        total = cost_by(rule, total);
+        left = left.saturating_sub(1);
+        let later = closed_cost_if(left > 0, rule, opened, closed);
+        opened = open_cost_by(rule, opened, closed);
+        closed = later;
         rest = more;
     }
-    greater(1, total)
+    greater(1, opened)
 }

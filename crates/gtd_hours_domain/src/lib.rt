@@ -13,5 +13,6 @@ mod dates;
 mod days;
 mod moving;
 mod places;
+mod said;
 mod spans;
 mod translate;

@@ -1,4 +1,6 @@
 -- Lemmas on the rows of a file of hours as read, translated and put, on its faults, its warnings, and its one answer.
+pub mod Alike
+pub mod AlikeDays
 pub mod BadPlaces
 pub mod EachFile
 pub mod ListFacts
@@ -12,7 +14,6 @@ pub mod PutFacts
 pub mod ReadFacts
 pub mod RowFacts
 pub mod RunFacts
-pub mod SameHours
 pub mod ShortFields
 pub mod TranslatedFacts
 pub mod WarningFacts

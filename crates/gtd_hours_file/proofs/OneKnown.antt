@@ -1,6 +1,5 @@
--- Without a table of holidays a text stands for the same hours wherever it stands for some, or has one first fault.
-use Rattle.std.proofs.Common.{◌≡◌, ◌∙◌, sym, ap, subst, inl, inr, ℕ, Bool, false, List, [], ◌∷◌, map}
-use Rattle.std.specs.Prelude.{None}
+-- A text stands for hours that are alike wherever it stands for some, or has one first fault.
+use Rattle.std.proofs.Common.{◌≡◌, ◌∙◌, sym, ap, subst, inl, inr, ℕ, List, [], ◌∷◌, map}
 use Rattle.gtd_hours.specs.declared.hours.Hours.{Hours}
 use Rattle.gtd_hours_moves.specs.Terms.{Piece}
 use Rattle.gtd_hours_grammar.specs.Faults.{IsFirstFault, IsHoursText}
@@ -15,22 +14,23 @@ use Rattle.gtd_hours_holiday_rules.specs.declared.told.Told.{Told}
 use Rattle.gtd_hours_known.specs.Faults.{bad_token, told}
 use Rattle.gtd_hours_known.specs.Needs.{first_need}
 use Rattle.gtd_hours_known.specs.Reading.{IsHolidayFault, IsKnown, IsKnownFault, IsOtherFault, IsSound, KnownStandsFor}
-use Rattle.gtd_hours_known.specs.Rules.{AreAllStrict, AreOpen, IsRuleFault}
+use Rattle.gtd_hours_known.specs.Rules.{AreAllStrict, IsRuleFault}
 use Rattle.gtd_hours_known.specs.declared.fault.KnownFault.{KnownFault}
 use Rattle.gtd_hours_known.specs.declared.fault.KnownFault.TheVariants as of_text
 use Rattle.gtd_hours_known.specs.declared.known.Known.{Known}
 use Rattle.gtd_hours_known.specs.declared.known.KnownHours.{KnownHours}
 use Rattle.gtd_hours_loose.specs.Reading.{IsStrict}
 use Rattle.gtd_hours_text.specs.facts.OneMeaning.{same_rules}
-use Rattle.gtd_hours_text.specs.facts.SameRules.{SameRules}
-use Rattle.gtd_hours_file.proofs.OneRules.{all_open, first_need_same, none_uncovered, not_both, one_head, one_tail, rules_same}
-use Rattle.gtd_hours_file.proofs.OneRules.{the_one}
+use Rattle.gtd_hours_file.proofs.Alike.{AreAllAlike}
+use Rattle.gtd_hours_file.proofs.AlikeDays.{alike_same}
+use Rattle.gtd_hours_file.proofs.OneRules.{covered_apart, first_need_same, not_both, one_head, one_tail, rules_alike}
+use Rattle.gtd_hours_file.proofs.OneRules.{same_uncovered, the_one}
 
 own_text : (x y : HolidayRule) (xs ys : List HolidayRule) → map said_by (x ∷ xs) ≡ map said_by (y ∷ ys)
     → x.text.items ≡ y.text.items
 own_text x y xs ys e = ap (λ (s : Said). s.text) (one_head (said_by x) (said_by y) (map said_by xs) (map said_by ys) e)
 
-module _ (known : Known) (no_table : known.holidays ≡ None)
+module _ (known : Known)
     (first_fault : (text : List ℕ) (one other : HoursFault) → IsFirstFault text one → IsFirstFault text other → one ≡ other)
     (faultless : (text : List ℕ) (p : List Piece) (bad : HoursFault) → IsHoursText text p → IsFirstFault text bad → ⊥)
     (one_place : (text : List ℕ) (one other : ℕ) → IsBadPlace text one → IsBadPlace text other → one ≡ other)
@@ -89,11 +89,8 @@ module _ (known : Known) (no_table : known.holidays ≡ None)
     told = one_told text f g p q;
   }
 
-  needs_same : (f g : HolidayText) (us vs : List Bool) → Same f g → AreOpen f.rules.items us → AreOpen g.rules.items vs
-      → first_need known false f.rules.items us ≡ first_need known false g.rules.items vs
-  needs_same f g us vs same p q =
-      ap (first_need known false f.rules.items) (all_open f.rules.items g.rules.items us vs same.rules p q)
-      ∙ first_need_same known false f.rules.items g.rules.items vs same.rules
+  needs_same : (f g : HolidayText) → Same f g → first_need known f.rules.items ≡ first_need known g.rules.items
+  needs_same f g same = first_need_same known f.rules.items g.rules.items same.rules
 
   checked_sound : (f g : HolidayText) (bad : HoursFault) → Same f g → IsStrict f.checked.items
       → IsFirstFault g.checked.items bad → ⊥
@@ -101,10 +98,6 @@ module _ (known : Known) (no_table : known.holidays ≡ None)
 
   one_holiday_fault : (f g : HolidayText) (a b : KnownFault) → Same f g → Same g f
       → IsHolidayFault known f a → IsHolidayFault known g b → a ≡ b
-  one_holiday_fault f g a b s t (IsHolidayFault.uncovered us place day sound o n un e) q =
-      absurd (none_uncovered known no_table f.rules.items place day un)
-  one_holiday_fault f g a b s t p (IsHolidayFault.uncovered vs place day sound o n un e) =
-      absurd (none_uncovered known no_table g.rules.items place day un)
   one_holiday_fault f g a b s t (IsHolidayFault.checked x p e) (IsHolidayFault.checked y q d) =
       e
       ∙ ap (λ (bad : HoursFault). told (told_fault bad f.told.items))
@@ -113,32 +106,45 @@ module _ (known : Known) (no_table : known.holidays ≡ None)
       ∙ sym d
   one_holiday_fault f g a b s t (IsHolidayFault.checked x p e) (IsHolidayFault.own y u q d) =
       absurd (checked_sound g f x t u p)
-  one_holiday_fault f g a b s t (IsHolidayFault.checked x p e) (IsHolidayFault.needed vs u o q) =
+  one_holiday_fault f g a b s t (IsHolidayFault.checked x p e) (IsHolidayFault.needed u q) =
       absurd (checked_sound g f x t u.checked p)
   one_holiday_fault f g a b s t (IsHolidayFault.own x u p e) (IsHolidayFault.checked y q d) =
       absurd (checked_sound f g y s u q)
   one_holiday_fault f g a b s t (IsHolidayFault.own x u p e) (IsHolidayFault.own y v q d) =
       e ∙ ap (λ (bad : HoursFault). of_text.Hours bad) (one_rule_fault f.rules.items g.rules.items x y s.rules p q) ∙ sym d
-  one_holiday_fault f g a b s t (IsHolidayFault.own x u p e) (IsHolidayFault.needed vs v o q) =
+  one_holiday_fault f g a b s t (IsHolidayFault.own x u p e) (IsHolidayFault.needed v q) =
       absurd (sound_rules g.rules.items f.rules.items x t.rules v.rules p)
-  one_holiday_fault f g a b s t (IsHolidayFault.needed us u n p) (IsHolidayFault.checked y q d) =
+  one_holiday_fault f g a b s t (IsHolidayFault.needed u p) (IsHolidayFault.checked y q d) =
       absurd (checked_sound f g y s u.checked q)
-  one_holiday_fault f g a b s t (IsHolidayFault.needed us u n p) (IsHolidayFault.own y v q d) =
+  one_holiday_fault f g a b s t (IsHolidayFault.needed u p) (IsHolidayFault.own y v q d) =
       absurd (sound_rules f.rules.items g.rules.items y s.rules u.rules q)
-  one_holiday_fault f g a b s t (IsHolidayFault.needed us u n p) (IsHolidayFault.needed vs v o q) =
-      the_one (first_need known false f.rules.items us) (first_need known false g.rules.items vs) a b
-      (needs_same f g us vs s n o) p q
+  one_holiday_fault f g a b s t (IsHolidayFault.needed u p) (IsHolidayFault.needed v q) =
+      the_one (first_need known f.rules.items) (first_need known g.rules.items) a b (needs_same f g s) p q
+  one_holiday_fault f g a b s t (IsHolidayFault.checked x p e) (IsHolidayFault.uncovered place day v n un d) =
+      absurd (checked_sound g f x t v.checked p)
+  one_holiday_fault f g a b s t (IsHolidayFault.own x u p e) (IsHolidayFault.uncovered place day v n un d) =
+      absurd (sound_rules g.rules.items f.rules.items x t.rules v.rules p)
+  one_holiday_fault f g a b s t (IsHolidayFault.needed u p) (IsHolidayFault.uncovered place day v n un d) =
+      absurd (not_both (first_need known g.rules.items) (first_need known f.rules.items) a (needs_same g f t) n p)
+  one_holiday_fault f g a b s t (IsHolidayFault.uncovered place day u n un e) (IsHolidayFault.checked y q d) =
+      absurd (checked_sound f g y s u.checked q)
+  one_holiday_fault f g a b s t (IsHolidayFault.uncovered place day u n un e) (IsHolidayFault.own y v q d) =
+      absurd (sound_rules f.rules.items g.rules.items y s.rules u.rules q)
+  one_holiday_fault f g a b s t (IsHolidayFault.uncovered place day u n un e) (IsHolidayFault.needed v q) =
+      absurd (not_both (first_need known f.rules.items) (first_need known g.rules.items) b (needs_same f g s) n q)
+  one_holiday_fault f g a b s t (IsHolidayFault.uncovered i x u n un e) (IsHolidayFault.uncovered j y v m also d) =
+      let one = same_uncovered known f.rules.items g.rules.items i j x y s.rules un also in
+      e ∙ (λ k. of_text.Uncovered (one.0 k) (one.1 k)) ∙ sym d
 
   not_both_so : (f g : HolidayText) (hours : Hours) (bad : KnownFault) → Same f g → IsSound f → IsKnown known f hours
       → IsHolidayFault known g bad → ⊥
   not_both_so f g hours bad s u is (IsHolidayFault.checked y q d) = checked_sound f g y s u.checked q
   not_both_so f g hours bad s u is (IsHolidayFault.own y v q d) =
       sound_rules f.rules.items g.rules.items y s.rules u.rules q
-  not_both_so f g hours bad s u is (IsHolidayFault.needed vs v o q) =
-      not_both (first_need known false f.rules.items is.opened) (first_need known false g.rules.items vs) bad
-      (needs_same f g is.opened vs s is.are_open o) is.no_need q
-  not_both_so f g hours bad s u is (IsHolidayFault.uncovered vs place day v o n un d) =
-      none_uncovered known no_table g.rules.items place day un
+  not_both_so f g hours bad s u is (IsHolidayFault.needed v q) =
+      not_both (first_need known f.rules.items) (first_need known g.rules.items) bad (needs_same f g s) is.no_need q
+  not_both_so f g hours bad s u is (IsHolidayFault.uncovered place day v n un d) =
+      covered_apart known f.rules.items g.rules.items hours.rules.items place day s.rules is.rules un
 
   -- ---- any text
 
@@ -165,13 +171,13 @@ module _ (known : Known) (no_table : known.holidays ≡ None)
   known_apart text read bad (KnownStandsFor.listed f other p u is marks) q = listed_apart text f read.hours bad p u is q.1
 
   pub known_same : (text : List ℕ) (one also : KnownHours) → KnownStandsFor known text one → KnownStandsFor known text also
-      → SameRules one.hours.rules.items also.hours.rules.items
+      → AreAllAlike one.hours.rules.items also.hours.rules.items
   known_same text one also (KnownStandsFor.plain stands marks) (KnownStandsFor.plain too more) =
-      same_rules text one.hours also.hours stands too
+      alike_same one.hours.rules.items also.hours.rules.items (same_rules text one.hours also.hours stands too)
   known_same text one also (KnownStandsFor.plain stands marks) (KnownStandsFor.listed g other q v so more) =
       absurd (other (stands.p, stands.is))
   known_same text one also (KnownStandsFor.listed f other p u is marks) (KnownStandsFor.plain too more) =
       absurd (other (too.p, too.is))
   known_same text one also (KnownStandsFor.listed f other p u is marks) (KnownStandsFor.listed g another q v so more) =
-      rules_same known no_table f.rules.items g.rules.items one.hours.rules.items also.hours.rules.items
+      rules_alike known f.rules.items g.rules.items one.hours.rules.items also.hours.rules.items
       (one_rules text f g p q) is.rules so.rules

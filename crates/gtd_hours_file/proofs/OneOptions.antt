@@ -24,9 +24,8 @@ use Rattle.gtd_hours_options.specs.Told.{bad_token, placed_fault, told}
 use Rattle.gtd_hours_options.specs.declared.fault.OptionsFault.{OptionsFault}
 use Rattle.gtd_hours_options.specs.declared.fault.OptionsFault.TheVariants as wrong
 use Rattle.gtd_hours_options.specs.declared.options.Options.{Options}
-use Rattle.gtd_hours_text.specs.facts.SameRules.{SameRules}
 use Rattle.gtd_hours_file.proofs.OneRules.{not_both, the_one}
-use Rattle.gtd_hours_file.proofs.SameHours.{hours_of}
+use Rattle.gtd_hours_file.proofs.Alike.{AreAllAlike, hours_of}
 
 -- ---- a text with times
 
@@ -61,7 +60,7 @@ time_same m n clocks same = λ i. or_time (first_misfit (same.told i)) (needed (
 
 module _ (options : Options)
     (known_same : (text : List ℕ) (one other : KnownHours) → KnownStandsFor options.known text one
-    → KnownStandsFor options.known text other → SameRules one.hours.rules.items other.hours.rules.items)
+    → KnownStandsFor options.known text other → AreAllAlike one.hours.rules.items other.hours.rules.items)
     (known_fault : (text : List ℕ) (one other : KnownFault) → IsKnownFault options.known text one
     → IsKnownFault options.known text other → one ≡ other)
     (known_apart : (text : List ℕ) (read : KnownHours) (bad : KnownFault) → KnownStandsFor options.known text read
@@ -191,7 +190,7 @@ module _ (options : Options)
   options_apart text read bad (StandsWith.timed x m f h r) (y, g, IsOtherFault.within q) = timed_apart text m read bad h r q
 
   pub options_same : (text : List ℕ) (one other : KnownHours) → StandsWith options text one → StandsWith options text other
-      → SameRules one.hours.rules.items other.hours.rules.items
+      → AreAllAlike one.hours.rules.items other.hours.rules.items
   options_same text one other (StandsWith.known p) (StandsWith.known q) = known_same text one other p q
   options_same text one other (StandsWith.known p) (StandsWith.timed y n g k s) = absurd (known_apart text one y p g)
   options_same text one other (StandsWith.timed x m f h r) (StandsWith.known q) = absurd (known_apart text other x q f)

@@ -20,10 +20,9 @@ use Rattle.gtd_hours_options.specs.declared.fault.OptionsFault.{OptionsFault}
 use Rattle.gtd_hours_options.specs.declared.fault.OptionsFault.TheVariants as wrong
 use Rattle.gtd_hours_options.specs.declared.fault.OptionsReadFault.TheVariants as reading
 use Rattle.gtd_hours_options.specs.declared.options.Options.{Options}
-use Rattle.gtd_hours_text.specs.facts.SameRules.{SameRules}
 use Rattle.gtd_hours_file.specs.SameAnswers.{AreReadInOneWay}
 use Rattle.gtd_hours_file.proofs.OneRules.{not_both, the_one}
-use Rattle.gtd_hours_file.proofs.SameHours.{hours_of, same_cost, same_opening}
+use Rattle.gtd_hours_file.proofs.Alike.{AreAllAlike, hours_of, same_cost, same_opening}
 
 -- ---- one strict form
 
@@ -74,7 +73,7 @@ no_form names text form w p (IsLooseFault.pair ys j e g is) =
 
 module _ (options : Options)
     (same : (text : List ℕ) (one other : KnownHours) → StandsWith options text one → StandsWith options text other
-    → SameRules one.hours.rules.items other.hours.rules.items)
+    → AreAllAlike one.hours.rules.items other.hours.rules.items)
     (one_fault : (text : List ℕ) (one other : OptionsFault) → IsOptionsFault options text one
     → IsOptionsFault options text other → one ≡ other)
     (apart : (text : List ℕ) (read : KnownHours) (bad : OptionsFault) → StandsWith options text read
@@ -123,7 +122,7 @@ module _ (options : Options)
   -- ---- hours
 
   loose_same : (names : DayNames) (text : List ℕ) (one other : KnownHours) → IsLooseReading names options text one
-      → IsLooseReading names options text other → SameRules one.hours.rules.items other.hours.rules.items
+      → IsLooseReading names options text other → AreAllAlike one.hours.rules.items other.hours.rules.items
   loose_same names text one other (IsLooseReading.written e s) (IsLooseReading.written d t) = same text one other s t
   loose_same names text one other (IsLooseReading.written e s) (IsLooseReading.mended y form own g t k placed) =
       absurd (apart text one y s g)
@@ -135,7 +134,7 @@ module _ (options : Options)
       (subst (λ (u : List ℕ). StandsWith options u a) (same_form_text names text form also s t) k) l)
 
   same_in : (m : Manner) (text : List ℕ) (one other : KnownHours) → IsReadingWithIn m options text one
-      → IsReadingWithIn m options text other → SameRules one.hours.rules.items other.hours.rules.items
+      → IsReadingWithIn m options text other → AreAllAlike one.hours.rules.items other.hours.rules.items
   same_in manner.Strict text one other p q = same text one other p.0 q.0
   same_in (manner.Loose names) text one other p q = loose_same names text one other p q
 

@@ -59,9 +59,9 @@ pub fn one_answer()
         → IsTranslation ones found → IsTranslation others also → AreSameRestrictions found also }
 {}
 
-/// Without a table of holidays texts are read in one way, whatever is given for times.
+/// Texts are read in one way, whatever is given for holidays and times.
 pub fn one_way()
-    ensures without { (how : HowRead) → how.options.known.holidays ≡ None → AreReadInOneWay how }
+    ensures all { (how : HowRead) → AreReadInOneWay how }
 {
     one_first_fault();
     one_holiday_text();

@@ -5,7 +5,7 @@ use Rattle.std.specs.Prelude.{Some, None, slice_get}
 use Rattle.std.specs.List.{Contains}
 use Rattle.std.proofs.lemmas.List.Elements.{Contains-append_left, Contains-append_right, Contains-append_cases}
 use Rattle.gtd_hours.specs.declared.hours.Rule.{Rule}
-use Rattle.gtd_hours_hidden.specs.Hides.{HasOtherHours, Hides, HidesOf, has_hours, takes_days}
+use Rattle.gtd_hours_hidden.specs.Hides.{HasOtherHours, Hides, HidesOf, can_be_hidden, takes_days}
 
 -- ---- rules by their numbers
 
@@ -79,7 +79,7 @@ first rules place n k earlier later at later-at days order free h =
 
 -- the rule hides hours if it has others
 pub hides : (rules : List Rule) (place k : ℕ) (earlier later : Rule) → slice_get rules place ≡ Some earlier
-    → has_hours earlier ≡ true → slice_get rules k ≡ Some later → takes_days later earlier ≡ true → place < k
+    → can_be_hidden earlier ≡ true → slice_get rules k ≡ Some later → takes_days later earlier ≡ true → place < k
     → IsFree rules place earlier k → HasOtherHours later earlier → (n : ℕ) → (Some k ≡ Some n) ↔ HidesOf rules place n
 hides rules place k earlier later at hours later-at days order free others n = (
   λ e. subst (λ (m : ℕ). HidesOf rules place m) (number e) (record {

@@ -4,12 +4,13 @@ use Rattle.std.specs.Prelude.{◌≡◌, ℕ, ◌<◌, ◌==◌, ◌&&◌, ◌||
 use Rattle.std.specs.Prelude.{Some, slice_get}
 use Rattle.std.specs.List.{list_all, list_any}
 use Rattle.gtd_hours.specs.Ranges.{end_of}
+use Rattle.gtd_hours.specs.Writable.{is_fallback}
 use Rattle.gtd_hours.specs.Written.{is_some_kind, is_some_time}
 use Rattle.gtd_hours.specs.declared.hours.Dated.{Dated as DatedRange}
 use Rattle.gtd_hours.specs.declared.hours.Dates.{Dates as DateRange}
 use Rattle.gtd_hours.specs.declared.hours.Kind.{Kind}
 use Rattle.gtd_hours.specs.declared.hours.Link.{Link}
-use Rattle.gtd_hours.specs.declared.hours.Link.TheVariants.{Instead, Also}
+use Rattle.gtd_hours.specs.declared.hours.Link.TheVariants.{Instead, Also, Fallback}
 use Rattle.gtd_hours.specs.declared.hours.Modifier.{Modifier}
 use Rattle.gtd_hours.specs.declared.hours.Modifier.TheVariants.{Open, Closed}
 use Rattle.gtd_hours.specs.declared.hours.MonthDay.{MonthDay}
@@ -124,10 +125,15 @@ is_open Closed = false
 abbrev pub is_instead : Link → Bool
 is_instead Instead = true
 is_instead Also = false
+is_instead Fallback = false
 
 -- The rule is open and has times. So it is not `24/7`, which has none.
 abbrev pub has_hours : Rule → Bool
 has_hours rule = is_open rule.modifier && is_some_time rule.times.items
+
+-- It has hours, and does not come after `||`: no rule hides hours of one that speaks where nothing is said.
+abbrev pub can_be_hidden : Rule → Bool
+can_be_hidden rule = has_hours rule && not (is_fallback rule.link)
 
 -- The later rule has no selectors of days or the same as the earlier one.
 abbrev pub has_days : Rule → Rule → Bool
@@ -153,15 +159,15 @@ MissesMinute later earlier = (m : ℕ) × (m < 1440) × (is_missed later earlier
 abbrev pub HasOtherHours : Rule → Rule → Type 0
 HasOtherHours later earlier = (has_hours later ≡ true) × MissesMinute later.times.items earlier.times.items
 
--- Rule k hides hours of rule j: the later one takes the days of the earlier one, and has other hours, and no rule between them
--- takes these days before. Rules are counted from 0.
+-- Rule k hides hours of rule j, which can be hidden: the later one takes the days of the earlier one, and has other hours, and no
+-- rule between them takes these days before. Rules are counted from 0.
 pub record HidesOf (rules : List Rule) (j k : ℕ) : Type 0 where
   pub earlier : Rule
   pub later : Rule
   pub is_earlier : slice_get rules j ≡ Some earlier
   pub is_later : slice_get rules k ≡ Some later
   pub order : j < k
-  pub hours : has_hours earlier ≡ true
+  pub hours : can_be_hidden earlier ≡ true
   pub days : takes_days later earlier ≡ true
   pub others : HasOtherHours later earlier
   pub first : (i : ℕ) (between : Rule) → j < i → i < k → slice_get rules i ≡ Some between → takes_days between earlier ≡ false

@@ -3,7 +3,8 @@
 ghost use Rattle.std.specs.Prelude.{◌≡◌, ◌↔◌, ◌<◌, ℕ, length, IfOk, IsTrue};
 ghost use Rattle.std.specs.List.{Contains};
 ghost use Rattle.std.specs.List.Sorted.{IsStrictlyIncreasing};
-ghost use Rattle.gtd_hours_hidden.specs.Hides.{HasOtherHours, Hides, HidesOf, has_days, has_hours, is_instead};
+ghost use Rattle.gtd_hours.specs.Writable.{is_fallback};
+ghost use Rattle.gtd_hours_hidden.specs.Hides.{HasOtherHours, Hides, HidesOf, can_be_hidden, has_days, has_hours, is_instead};
 ghost use Rattle.gtd_hours_hidden.specs.Hides.{is_open, takes_days};
 
 use crate::days::same_kinds;
@@ -25,7 +26,16 @@ fn is_instead(link: Link) -> bool
 {
     match link {
         Link::Instead => true,
-        Link::Also => false,
+        Link::Also | Link::Fallback => false,
+    }
+}
+
+fn is_fallback(link: Link) -> bool
+    ensures { result ≡ is_fallback link }
+{
+    match link {
+        Link::Instead | Link::Also => false,
+        Link::Fallback => true,
     }
 }
 
@@ -33,6 +43,12 @@ fn has_hours(rule: &Rule) -> bool
     ensures { result ≡ has_hours rule.now }
 {
     is_open(rule.modifier) && !rule.times.is_empty()
+}
+
+fn can_be_hidden(rule: &Rule) -> bool
+    ensures { result ≡ can_be_hidden rule.now }
+{
+    has_hours(rule) && !is_fallback(rule.link)
 }
 
 fn has_days(later: &Rule, earlier: &Rule) -> bool
@@ -59,7 +75,7 @@ fn hider(rules: &[Rule], place: usize) -> Option<usize>
     ensures { (k : ℕ) → (result ≡ Some k) ↔ HidesOf rules.now place k }
 {
     let earlier = &rules[place];
-    if !has_hours(earlier) {
+    if !can_be_hidden(earlier) {
         return None;
     }
     for k in place + 1..rules.len() {
@@ -93,9 +109,9 @@ fn hiders(alloc: Global, rules: &[Rule]) -> Result<Vec<usize>, AllocError>
 /// The numbers of the rules that hide hours of an earlier one, counted from 0 and in ascending order, or an error if memory
 /// was refused.
 ///
-/// Such a rule is open, comes after `;` and has times; and an earlier open rule has times of which some minute before 24:00 is
-/// in none of its own. It has no selectors of days or the same as the earlier rule, and none between them takes these days
-/// before.
+/// Such a rule is open, comes after `;` and has times; and an earlier open rule, which does not come after `||`, has times of
+/// which some minute before 24:00 is in none of its own. It has no selectors of days or the same as the earlier rule, and none
+/// between them takes these days before.
 pub fn hiding_rules(alloc: Global, hours: &Hours) -> Result<Vec<usize>, AllocError>
     ensures exact { IfOk result (λ places. (k : ℕ) → Contains places.items k ↔ Hides hours.now.rules.items k) }
     ensures in_order { IfOk result (λ places. IsStrictlyIncreasing places.items) }

@@ -1,5 +1,4 @@
 -- Lemmas on the tokens that have been read, on the length of the checked text, and that a text has one reading.
 pub mod TokenLemmas
 pub mod OneText
-pub mod RuleLinks
 pub mod RulePlaces

@@ -5,7 +5,7 @@ use Rattle.std.specs.Prelude.{if◌then◌else◌}
 use Rattle.gtd_hours_days.specs.declared.listed.Listed.{Listed}
 use Rattle.gtd_hours_holiday_rules.specs.Reading.{HasParts}
 use Rattle.gtd_hours_holiday_rules.specs.Rules.{HavePlaces, Said, begins_rule, begun}
-use Rattle.gtd_hours_holiday_rules.specs.Rules.{beginning_of, or_joined, rules_from, said_by, with_item}
+use Rattle.gtd_hours_holiday_rules.specs.Rules.{link_behind, or_also, rules_from, said_by, with_item}
 use Rattle.gtd_hours_holiday_rules.specs.declared.items.Item.{Item}
 use Rattle.gtd_hours_holiday_rules.specs.declared.parts.Part.{Part}
 use Rattle.gtd_hours_holiday_rules.specs.declared.role.Role.{Role}
@@ -41,8 +41,8 @@ rules_placed : (text : List ℕ) (rule : Said) (parts : List Part) → length ru
     → HavePlaces (rules_from text rule parts)
 rules_placed text rule [] e = (e, tt)
 rules_placed text rule (p ∷ parts) e =
-    either (begins_rule (beginning_of p.role p.item)) _ _
-    (e, rules_placed text (begun (or_joined (beginning_of p.role p.item))) parts refl)
+    either (begins_rule (link_behind p.role)) _ _
+    (e, rules_placed text (begun (or_also (link_behind p.role))) parts refl)
     (rules_placed text (with_item text rule p.role p.item) parts (item_placed text rule p.role p.item e))
 
 pub places : (text : List ℕ) (parts : List Part) (read : HolidayText) → HasParts text parts read

@@ -1,5 +1,5 @@
 -- The rules of a text, each with its own text of plain hours, its holidays, and what else is said of it.
-use Rattle.std.specs.Prelude.{◌≡◌, ⊤, length, ℕ, Bool, true, false, is_some, List}
+use Rattle.std.specs.Prelude.{◌≡◌, ⊤, length, ℕ, Bool, true, false, List}
 use Rattle.std.specs.Prelude.{[], ◌∷◌, ◌++◌, Option, Some, None, codes, map, if◌then◌else◌}
 use Rattle.gtd_hours.specs.declared.hours.Link.{Link}
 use Rattle.gtd_hours.specs.declared.hours.Link.TheVariants as link
@@ -8,7 +8,6 @@ use Rattle.gtd_hours_holiday_rules.specs.declared.items.Item.{Item}
 use Rattle.gtd_hours_holiday_rules.specs.declared.parts.Part.{Part}
 use Rattle.gtd_hours_holiday_rules.specs.declared.role.Role.{Role}
 use Rattle.gtd_hours_holiday_rules.specs.declared.role.Role.TheVariants as role
-use Rattle.gtd_hours_holiday_rules.specs.declared.rules.Beginning.{Beginning}
 use Rattle.gtd_hours_holiday_rules.specs.declared.rules.Cut.{Cut}
 use Rattle.gtd_hours_holiday_rules.specs.declared.rules.HolidayRule.{HolidayRule}
 use Rattle.gtd_hours_holiday_rules.specs.Items.{stretch}
@@ -16,7 +15,6 @@ use Rattle.gtd_hours_holiday_rules.specs.Items.{stretch}
 -- What a rule says, apart from how it is kept in memory.
 pub record Said : Type 0 where
   pub link : Link
-  pub fallback : Option ℕ
   pub text : List ℕ
   pub is_led : Bool
   pub holidays : List Listed
@@ -27,7 +25,6 @@ pub record Said : Type 0 where
 abbrev pub said_by : HolidayRule → Said
 said_by rule = record {
   link = rule.link;
-  fallback = rule.fallback;
   text = rule.text.items;
   is_led = rule.is_led;
   holidays = rule.holidays.items;
@@ -36,15 +33,10 @@ said_by rule = record {
   remark = rule.remark;
 }
 
--- without `||`
-abbrev pub joined : Link → Beginning
-joined link = record { link = link; fallback = None }
-
--- A rule begins so.
-abbrev pub begun : Beginning → Said
-begun b = record {
-  link = b.link;
-  fallback = b.fallback;
+-- A rule begins, with this link.
+abbrev pub begun : Link → Said
+begun link = record {
+  link = link;
   text = [];
   is_led = false;
   holidays = [];
@@ -82,40 +74,34 @@ text_or_on (byte ∷ bytes) = byte ∷ bytes
 abbrev pub ended : Said → Said
 ended rule = record rule { text = text_or_on rule.text }
 
--- How a rule begins behind an item with this role, if one begins there. What `||` begins adds to what was said before.
-abbrev pub beginning_of : Role → Item → Option Beginning
-beginning_of (role.Begins link) item = Some (joined link)
-beginning_of role.Fallback item = Some (record { link = link.Also; fallback = Some item.from })
-beginning_of r item = None
+-- The link of a rule that begins behind an item with this role, if one begins there.
+abbrev pub link_behind : Role → Option Link
+link_behind (role.Begins l) = Some l
+link_behind role.Fallback = Some link.Fallback
+link_behind r = None
 
-abbrev pub begins_rule : Option Beginning → Bool
-begins_rule (Some b) = true
+abbrev pub begins_rule : Option Link → Bool
+begins_rule (Some l) = true
 begins_rule None = false
 
-abbrev pub or_joined : Option Beginning → Beginning
-or_joined (Some b) = b
-or_joined None = joined link.Also
+abbrev pub or_also : Option Link → Link
+or_also (Some l) = l
+or_also None = link.Also
 
 -- The rules of the parts that are left, where a rule has come so far.
 abbrev pub rules_from : List ℕ → Said → List Part → List Said
 rules_from text rule [] = ended rule ∷ []
 rules_from text rule (part ∷ parts) =
-    if begins_rule (beginning_of part.role part.item)
-    then ended rule ∷ rules_from text (begun (or_joined (beginning_of part.role part.item))) parts
+    if begins_rule (link_behind part.role) then ended rule ∷ rules_from text (begun (or_also (link_behind part.role))) parts
     else rules_from text (with_item text rule part.role part.item) parts
 
 abbrev pub rules_of : List ℕ → List Part → List Said
-rules_of text parts = rules_from text (begun (joined link.Instead)) parts
+rules_of text parts = rules_from text (begun link.Instead) parts
 
 -- each of the rules has a place for each of its holidays
 abbrev pub HavePlaces : List Said → Type 0
 HavePlaces [] = ⊤
 HavePlaces (rule ∷ rules) = (length rule.places ≡ length rule.holidays) × HavePlaces rules
-
--- each of the rules that `||` begins adds to what was said before
-abbrev pub AreAdded : List Said → Type 0
-AreAdded [] = ⊤
-AreAdded (rule ∷ rules) = (is_some rule.fallback ≡ true → rule.link ≡ link.Also) × AreAdded rules
 
 -- ---- as the code has come so far
 

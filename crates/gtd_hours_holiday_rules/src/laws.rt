@@ -3,14 +3,13 @@
 ghost use Rattle.std.specs.Prelude.{◌≡◌, ℕ, List, length, map};
 ghost use Rattle.gtd_hours_holiday_rules.specs.Comments.{IsBadPlace};
 ghost use Rattle.gtd_hours_holiday_rules.specs.Reading.{IsHolidayText};
-ghost use Rattle.gtd_hours_holiday_rules.specs.Rules.{AreAdded, HavePlaces, said_by};
+ghost use Rattle.gtd_hours_holiday_rules.specs.Rules.{HavePlaces, said_by};
 ghost use Rattle.gtd_hours_holiday_rules.specs.declared.text.HolidayText.{HolidayText};
 
 use gtd_hours_tokens::laws::one_reading;
 
 /// A text has one checked text at most, of its length, one list of rules, with a place for each of their holidays, and one way
-/// in which faults are told; and no byte then with which no token begins, nor a comment that is not whole. A rule that `||`
-/// begins adds to what was said before.
+/// in which faults are told; and no byte then with which no token begins, nor a comment that is not whole.
 pub fn one_holiday_text()
     ensures checked { (text : List ℕ) (one other : HolidayText) → IsHolidayText text one → IsHolidayText text other
         → one.checked.items ≡ other.checked.items }
@@ -22,8 +21,6 @@ pub fn one_holiday_text()
         → length read.checked.items ≡ length text }
     ensures places { (text : List ℕ) (read : HolidayText) → IsHolidayText text read
         → HavePlaces (map said_by read.rules.items) }
-    ensures added { (text : List ℕ) (read : HolidayText) → IsHolidayText text read
-        → AreAdded (map said_by read.rules.items) }
     ensures apart { (text : List ℕ) (read : HolidayText) (place : ℕ) → IsHolidayText text read → IsBadPlace text place → ⊥ }
 {
     one_reading();

@@ -1,7 +1,7 @@
 //! The rules of a text, each with its own text of plain hours, its holidays, and what else is said of it.
 
 ghost use Rattle.std.specs.Prelude.{◌≡◌, ◌++◌, ◌∷◌, [], List, IfOk, OnOk, map};
-ghost use Rattle.gtd_hours_holiday_rules.specs.Rules.{all_rules, beginning_of, begun, ended, joined, rules_of, said_by};
+ghost use Rattle.gtd_hours_holiday_rules.specs.Rules.{all_rules, begun, ended, link_behind, rules_of, said_by};
 ghost use Rattle.gtd_hours_holiday_rules.specs.Rules.{with_holiday, with_item, with_text};
 ghost use Rattle.gtd_hours_holiday_rules.specs.declared.parts.Part.{Part};
 
@@ -13,23 +13,11 @@ use gtd_hours_days::Listed;
 use std::alloc::{AllocError, Global};
 use std::mem::replace;
 
-/// How a rule begins.
-#[derive(Clone, Copy)]
-pub struct Beginning {
-    /// How it stands to the rules before it.
-    pub link: Link,
-    /// The place of the `||` behind which it begins, if one stands there.
-    pub fallback: Option<usize>,
-}
-
 /// A rule of a text.
 #[derive(Drop)]
 pub struct HolidayRule {
-    /// How it stands to the rules before it; a fallback rule adds to them.
+    /// How it stands to the rules before it.
     pub link: Link,
-    /// The number of bytes before the `||` behind which it begins, if it is a fallback rule: one that speaks where nothing is
-    /// said.
-    pub fallback: Option<usize>,
     /// Its text without holidays: plain hours of one rule.
     pub text: Vec<u8>,
     /// Whether its holidays lead: then a day must be one of them as well as what the text says. Else it must be one of them or
@@ -54,22 +42,11 @@ pub struct Cut {
     pub last: HolidayRule,
 }
 
-// Without `||`.
-fn joined(link: Link) -> Beginning
-    ensures { result ≡ joined link }
-{
-    Beginning {
-        link,
-        fallback: None,
-    }
-}
-
-fn begun(alloc: Global, beginning: Beginning) -> HolidayRule
-    ensures { said_by result ≡ begun beginning }
+fn begun(alloc: Global, link: Link) -> HolidayRule
+    ensures { said_by result ≡ begun link }
 {
     HolidayRule {
-        link: beginning.link,
-        fallback: beginning.fallback,
+        link,
         text: Vec::new(alloc),
         is_led: false,
         holidays: Vec::new(alloc),
@@ -132,28 +109,25 @@ fn end(rule: &mut HolidayRule) -> Result<(), AllocError>
     Ok(())
 }
 
-// How a rule begins behind an item of which this becomes, if one begins there.
-fn beginning_of(role: Role, item: Item) -> Option<Beginning>
-    ensures { result ≡ beginning_of role item }
+// The link of a rule that begins behind an item of which this becomes, if one begins there.
+fn link_behind(role: Role) -> Option<Link>
+    ensures { result ≡ link_behind role }
 {
     match role {
-        Role::Begins(link) => Some(joined(link)),
-        Role::Fallback => Some(Beginning {
-            link: Link::Also,
-            fallback: Some(item.from),
-        }),
+        Role::Begins(link) => Some(link),
+        Role::Fallback => Some(Link::Fallback),
         _ => None,
     }
 }
 
 // The last rule ends, and another begins.
-fn begin(cut: &mut Cut, alloc: Global, beginning: Beginning) -> Result<(), AllocError>
+fn begin(cut: &mut Cut, alloc: Global, link: Link) -> Result<(), AllocError>
     ensures ended { OnOk result (map said_by cut.new.ended.items
         ≡ map said_by cut.old.ended.items ++ ended (said_by cut.old.last) ∷ []) }
-    ensures last { OnOk result (said_by cut.new.last ≡ begun beginning) }
+    ensures last { OnOk result (said_by cut.new.last ≡ begun link) }
 {
     end(&mut cut.last)?;
-    let ended = replace(&mut cut.last, begun(alloc, beginning));
+    let ended = replace(&mut cut.last, begun(alloc, link));
     cut.ended.push(ended)?;
     Ok(())
 }
@@ -161,8 +135,8 @@ fn begin(cut: &mut Cut, alloc: Global, beginning: Beginning) -> Result<(), Alloc
 fn put_part(cut: &mut Cut, alloc: Global, text: &[u8], part: Part) -> Result<(), AllocError>
     ensures { OnOk result ((parts : List Part) → all_rules text.now cut.new parts ≡ all_rules text.now cut.old (part ∷ parts)) }
 {
-    match beginning_of(part.role, part.item) {
-        Some(beginning) => begin(cut, alloc, beginning),
+    match link_behind(part.role) {
+        Some(link) => begin(cut, alloc, link),
         None => push_item(&mut cut.last, text, part.role, part.item),
     }
 }
@@ -173,13 +147,13 @@ pub fn rules_of(alloc: Global, text: &[u8], parts: &[Part]) -> Result<Vec<Holida
 {
     let mut cut = Cut {
         ended: Vec::new(alloc),
-        last: begun(alloc, joined(Link::Instead)),
+        last: begun(alloc, Link::Instead),
     };
     let mut rest = parts;
     while let Some((part, later)) = rest.split_first() {
         put_part(&mut cut, alloc, text, *part)?;
         rest = later;
     }
-    begin(&mut cut, alloc, joined(Link::Instead))?;
+    begin(&mut cut, alloc, Link::Instead)?;
     Ok(cut.ended)
 }

@@ -2,14 +2,14 @@
 use Rattle.std.proofs.Common.{◌≡◌, refl, subst, ℕ, List, [], ◌∷◌, Bool, true, false, length, Option, Some, None, arith}
 use Rattle.std.proofs.Common.{Result, Ok, Err, Vec, Global, zero, suc}
 use Rattle.std.proofs.lemmas.Bool.{false≢true}
-use Rattle.std.specs.Prelude.{IfErr, IfOk, IsSome, ◌||◌, ◌==◌, drop, if◌then◌else◌}
+use Rattle.std.specs.Prelude.{IfErr, IfOk, IsSome, ◌==◌, if◌then◌else◌}
 use Rattle.gtd_hours_days.specs.declared.listed.Listed.{Listed}
 use Rattle.gtd_hours_holidays.specs.declared.holidays.Holidays.{Holidays}
 use Rattle.gtd_hours_holidays.specs.declared.known_years.KnownYears.{KnownYears}
 use Rattle.gtd_hours_holiday_rules.specs.declared.rules.HolidayRule.{HolidayRule}
 use Rattle.gtd_hours_known.specs.Given.{AreAllGiven, no_years, none_given, not_given, has_table, or_later}
 use Rattle.gtd_hours_known.specs.HolidayDays.{AreDaysOf}
-use Rattle.gtd_hours_known.specs.Needs.{closes, fallback_fault, first_need, first_open, need_of, unknown_fault}
+use Rattle.gtd_hours_known.specs.Needs.{first_need, need_of, unknown_fault}
 use Rattle.gtd_hours_known.specs.Rules.{AreGivenDays, IsDaysStop, IsGiven, IsRuleStop, first_place}
 use Rattle.gtd_hours_known.specs.declared.fault.KnownFault.{KnownFault}
 use Rattle.gtd_hours_known.specs.declared.fault.KnownFault.TheVariants as fault
@@ -63,16 +63,12 @@ no_years_given known holidays places some none e =
     absurd (false≢true bad)
 
 -- rules that need nothing have all that is given
-pub all_given : (known : Known) (closed : Bool) (rules : List HolidayRule) (opened : List Bool)
-    → first_need known closed rules opened ≡ None → AreAllGiven known rules
-all_given known closed [] opened e = tt
-all_given known closed (rule ∷ rules) opened e =
-    let both = none_of (need_of known rule rules closed (first_open opened))
-    (first_need known (closed || closes rule (first_open opened)) rules (drop 1 opened)) e in
-    let inner = none_of (fallback_fault rule closed (first_open opened))
-    (or_later (none_given known rule.holidays.items rule.places.items) (unknown_fault rule rules)) both.0 in
-    let own = none_of (none_given known rule.holidays.items rule.places.items) (unknown_fault rule rules) inner.1 in
-    (own.0, all_given known (closed || closes rule (first_open opened)) rules (drop 1 opened) both.1)
+pub all_given : (known : Known) (rules : List HolidayRule) → first_need known rules ≡ None → AreAllGiven known rules
+all_given known [] e = tt
+all_given known (rule ∷ rules) e =
+    let both = none_of (need_of known rule rules) (first_need known rules) e in
+    let own = none_of (none_given known rule.holidays.items rule.places.items) (unknown_fault rule rules) both.0 in
+    (own.0, all_given known rules both.1)
 
 -- ---- the days of a rule's holidays
 

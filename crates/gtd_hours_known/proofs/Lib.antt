@@ -4,6 +4,7 @@ pub mod JoiningLemmas
 pub mod RuleFacts
 pub mod ReadingFacts
 pub mod MatchFacts
+pub mod NeedFacts
 pub mod PlainReadings
 pub mod GivenFacts
 pub mod SaidDays

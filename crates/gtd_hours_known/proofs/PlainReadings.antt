@@ -1,6 +1,5 @@
 -- Hours that are read without holidays, comments, unknown and fallback rules are those that are read plainly.
-use Rattle.std.proofs.Common.{◌≡◌, ◌∙◌, refl, sym, ap, subst, ℕ, Bool, List, [], ◌∷◌, length, Option, Some, None}
-use Rattle.std.specs.Prelude.{◌||◌, drop}
+use Rattle.std.proofs.Common.{◌≡◌, ◌∙◌, refl, sym, ap, subst, ℕ, List, [], ◌∷◌, length, Option, Some, None}
 use Rattle.gtd_hours.specs.declared.hours.Hours.{Hours}
 use Rattle.gtd_hours.specs.declared.hours.Rule.{Rule}
 use Rattle.gtd_hours.specs.declared.hours.Selector.{Selector}
@@ -21,7 +20,7 @@ use Rattle.gtd_hours_known.specs.Given.{none_given, or_later}
 use Rattle.gtd_hours_known.specs.Manners.{IsKnownLooseReading, IsKnownReadingIn, IsPlaced, mended, placed_holiday, placed_places}
 use Rattle.gtd_hours_known.specs.Manners.{strict}
 use Rattle.gtd_hours_known.specs.Marks.{HasMarks}
-use Rattle.gtd_hours_known.specs.Needs.{closes, fallback_fault, first_need, first_open, unknown_fault}
+use Rattle.gtd_hours_known.specs.Needs.{first_need, unknown_fault}
 use Rattle.gtd_hours_known.specs.Reading.{IsKnown, KnownStandsFor, listed, plain}
 use Rattle.gtd_hours_known.specs.Rules.{AreGivenDays, AreHolidayRules, IsHolidayRule, first_holiday, first_or}
 use Rattle.gtd_hours_known.specs.declared.fault.KnownFault.{KnownFault}
@@ -108,25 +107,20 @@ same_given : (known other : Known) (holidays : List Listed) (places : List ℕ) 
 same_given known other [] places none = refl
 same_given known other (h ∷ holidays) places none = absurd cc
 
-same_need : (known other : Known) (closed : Bool) (rules : List HolidayRule) (opened : List Bool)
-    → first_holiday rules ≡ None → first_need known closed rules opened ≡ first_need other closed rules opened
-same_need known other closed [] opened none = refl
-same_need known other closed (rule ∷ rules) opened none =
+same_need : (known other : Known) (rules : List HolidayRule) → first_holiday rules ≡ None
+    → first_need known rules ≡ first_need other rules
+same_need known other [] none = refl
+same_need known other (rule ∷ rules) none =
     let both = no_first rule.holidays.items rule.places.items (first_holiday rules) none in
-    ap (λ (o : Option KnownFault). or_later (or_later (fallback_fault rule closed (first_open opened))
-    (or_later o (unknown_fault rule rules)))
-    (first_need known (closed || closes rule (first_open opened)) rules (drop 1 opened)))
+    ap (λ (o : Option KnownFault). or_later (or_later o (unknown_fault rule rules)) (first_need known rules))
     (same_given known other rule.holidays.items rule.places.items both.0)
-    ∙ ap (λ (o : Option KnownFault). or_later (or_later (fallback_fault rule closed (first_open opened))
-    (or_later (none_given other rule.holidays.items rule.places.items) (unknown_fault rule rules))) o)
-    (same_need known other (closed || closes rule (first_open opened)) rules (drop 1 opened) both.1)
+    ∙ ap (λ (o : Option KnownFault). or_later (or_later (none_given other rule.holidays.items rule.places.items)
+    (unknown_fault rule rules)) o) (same_need known other rules both.1)
 
 same_known : (known other : Known) (found : HolidayText) (hours : Hours) → first_holiday found.rules.items ≡ None
     → IsKnown known found hours → IsKnown other found hours
 same_known known other found hours none is = record {
-  opened = is.opened;
-  are_open = is.are_open;
-  no_need = sym (same_need known other _ found.rules.items is.opened none) ∙ is.no_need;
+  no_need = sym (same_need known other found.rules.items none) ∙ is.no_need;
   rules = same_rules known other found.rules.items hours.rules.items none is.rules;
 }
 

@@ -1,11 +1,10 @@
 -- The hours of a text with holidays, and its first fault.
-use Rattle.std.proofs.Common.{◌≡◌, ◌∙◌, refl, sym, ap, inl, inr, ℕ, Bool, false, List, length, Option, None, Result, Ok, Err}
+use Rattle.std.proofs.Common.{◌≡◌, refl, inl, inr, ℕ, List, length, None, Result, Ok, Err}
 use Rattle.std.specs.Prelude.{IfErr, IfOk}
 use Rattle.gtd_hours_grammar.specs.Faults.{IsFirstFault}
 use Rattle.gtd_hours_grammar.specs.declared.fault.HoursFault.{HoursFault}
 use Rattle.gtd_hours_grammar.specs.facts.FirstFault.{hours_or_fault}
 use Rattle.gtd_hours_holiday_rules.specs.Reading.{IsHolidayText, IsNoHolidayText}
-use Rattle.gtd_hours_holiday_rules.specs.declared.rules.HolidayRule.{HolidayRule}
 use Rattle.gtd_hours_holiday_rules.specs.declared.stop.NoHolidayText.{NoHolidayText}
 use Rattle.gtd_hours_holiday_rules.specs.declared.stop.NoHolidayText.TheVariants as stop
 use Rattle.gtd_hours_holiday_rules.specs.declared.text.HolidayText.{HolidayText}
@@ -24,7 +23,7 @@ use Rattle.gtd_hours_known.specs.Manners as manners
 use Rattle.gtd_hours_known.specs.Reading.{IsHolidayFault, IsHolidayStop, IsKnown, IsKnownStop, IsOtherStop, IsSound}
 use Rattle.gtd_hours_known.specs.Reading.{IsTableStop, IsUnsound}
 use Rattle.gtd_hours_known.specs.Reading.{KnownStandsFor, checked, own, listed, token, uncovered, within}
-use Rattle.gtd_hours_known.specs.Rules.{AreHolidayRules, AreOpen}
+use Rattle.gtd_hours_known.specs.Rules.{AreHolidayRules}
 use Rattle.gtd_hours_known.specs.declared.fault.KnownFault.{KnownFault}
 use Rattle.gtd_hours_known.specs.declared.fault.KnownFault.TheVariants as fault
 use Rattle.gtd_hours_known.specs.declared.fault.KnownReadFault.{KnownReadFault}
@@ -102,44 +101,27 @@ loose_fault names known text (Err why) other f = loose_stop_of names known text 
 
 -- ---- a text whose rules need nothing
 
--- what the code asks for is what they need
-pub same_need : (known : Known) (found : HolidayText) (opened : List Bool) (rules : List HolidayRule) (slice : List Bool)
-    (need : Option KnownFault) → need ≡ first_need known false rules slice → rules ≡ found.rules.items → slice ≡ opened
-    → first_need known false found.rules.items opened ≡ need
-same_need known found opened rules slice need e f g =
-    sym (e ∙ ap (λ (rs : List HolidayRule). first_need known false rs slice) f
-    ∙ ap (λ (l : List Bool). first_need known false found.rules.items l) g)
-
-pub known_hours : (known : Known) (found : HolidayText) (opened : List Bool) (read : Result KnownHours KnownReadFault)
-    → AreOpen found.rules.items opened → first_need known false found.rules.items opened ≡ None
-    → IfOk read (λ r. AreHolidayRules known found.rules.items r.hours.rules.items)
+pub known_hours : (known : Known) (found : HolidayText) (read : Result KnownHours KnownReadFault)
+    → first_need known found.rules.items ≡ None → IfOk read (λ r. AreHolidayRules known found.rules.items r.hours.rules.items)
     → IfOk read (λ r. IsKnown known found r.hours)
-known_hours known found opened (Ok r) are_open no_need are = record {
-  opened = opened;
-  are_open = are_open;
-  no_need = no_need;
-  rules = are;
-}
-known_hours known found opened (Err why) are_open no_need are = tt
+known_hours known found (Ok r) no_need are = record { no_need = no_need; rules = are }
+known_hours known found (Err why) no_need are = tt
 
-table_stop : (known : Known) (found : HolidayText) (opened : List Bool) (why : KnownReadFault) → IsSound found
-    → AreOpen found.rules.items opened → first_need known false found.rules.items opened ≡ None
-    → IsTableStop known found.rules.items why → IsHolidayStop known found why
-table_stop known found opened (reading.Fault (fault.Uncovered at day)) sound are_open no_need un =
-    uncovered opened at day sound are_open no_need un refl
-table_stop known found opened (reading.Fault (fault.Hours bad)) sound are_open no_need un = absurd un
-table_stop known found opened (reading.Fault (fault.Ambiguous at)) sound are_open no_need un = absurd un
-table_stop known found opened (reading.Fault (fault.Holidays at)) sound are_open no_need un = absurd un
-table_stop known found opened (reading.Fault (fault.Years at)) sound are_open no_need un = absurd un
-table_stop known found opened (reading.Fault (fault.Unknown at)) sound are_open no_need un = absurd un
-table_stop known found opened reading.NoMemory sound are_open no_need un = tt
+table_stop : (known : Known) (found : HolidayText) (why : KnownReadFault) → IsSound found
+    → first_need known found.rules.items ≡ None → IsTableStop known found.rules.items why → IsHolidayStop known found why
+table_stop known found (reading.Fault (fault.Uncovered at day)) sound no_need un = uncovered at day sound no_need un refl
+table_stop known found (reading.Fault (fault.Hours bad)) sound no_need un = absurd un
+table_stop known found (reading.Fault (fault.Ambiguous at)) sound no_need un = absurd un
+table_stop known found (reading.Fault (fault.Holidays at)) sound no_need un = absurd un
+table_stop known found (reading.Fault (fault.Years at)) sound no_need un = absurd un
+table_stop known found (reading.Fault (fault.Unknown at)) sound no_need un = absurd un
+table_stop known found reading.NoMemory sound no_need un = tt
 
-pub table_fault : (known : Known) (found : HolidayText) (opened : List Bool) (read : Result KnownHours KnownReadFault)
-    → IsSound found → AreOpen found.rules.items opened → first_need known false found.rules.items opened ≡ None
-    → IfErr read (IsTableStop known found.rules.items) → IfErr read (IsHolidayStop known found)
-table_fault known found opened (Ok r) sound are_open no_need un = tt
-table_fault known found opened (Err why) sound are_open no_need un =
-    table_stop known found opened why sound are_open no_need un
+pub table_fault : (known : Known) (found : HolidayText) (read : Result KnownHours KnownReadFault) → IsSound found
+    → first_need known found.rules.items ≡ None → IfErr read (IsTableStop known found.rules.items)
+    → IfErr read (IsHolidayStop known found)
+table_fault known found (Ok r) sound no_need un = tt
+table_fault known found (Err why) sound no_need un = table_stop known found why sound no_need un
 
 -- ---- a text that is read as it is written
 

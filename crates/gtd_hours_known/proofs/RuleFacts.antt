@@ -1,12 +1,12 @@
 -- The rules of a text, one after another.
-use Rattle.std.proofs.Common.{◌≡◌, refl, sym, subst, inl, inr, ℕ, ℤ, Bool, List, [], ◌∷◌, ◌++◌, append_assoc, length, arith}
+use Rattle.std.proofs.Common.{◌≡◌, refl, sym, subst, inl, inr, ℕ, ℤ, List, [], ◌∷◌, ◌++◌, append_assoc, length, arith}
 use Rattle.std.proofs.lemmas.List.{append-nil}
 use Rattle.gtd_hours.specs.declared.hours.Rule.{Rule}
 use Rattle.gtd_hours.specs.declared.hours.Selector.{Selector}
 use Rattle.gtd_hours_days.specs.declared.listed.Listed.{Listed}
 use Rattle.gtd_hours_holiday_rules.specs.declared.rules.HolidayRule.{HolidayRule}
-use Rattle.gtd_hours_known.specs.Rules.{AreAllSaid, AreGivenDays, AreHolidayRules, AreOpen, AreWithHolidays, HasHolidays}
-use Rattle.gtd_hours_known.specs.Rules.{IsHolidayRule, IsHolidayUncovered, IsRuleStop, IsRulesStop, Opens}
+use Rattle.gtd_hours_known.specs.Rules.{AreAllSaid, AreGivenDays, AreHolidayRules, AreWithHolidays, HasHolidays}
+use Rattle.gtd_hours_known.specs.Rules.{IsHolidayRule, IsHolidayUncovered, IsRuleStop, IsRulesStop}
 use Rattle.gtd_hours_known.specs.declared.known.Known.{Known}
 use Rattle.gtd_hours_known.specs.declared.rules.RulesStop.{RulesStop}
 use Rattle.gtd_hours_known.specs.declared.rules.RulesStop.TheVariants as stop
@@ -65,18 +65,3 @@ no_memory known all why e = rw e tt
 pub no_rules : (rules : List HolidayRule) → length rules ≡ 0 → rules ≡ []
 no_rules [] e = refl
 no_rules (x ∷ xs) e = absurd (omega (arith, e))
-
--- ---- whether rules are open
-
-abbrev pub AreOpenSoFar : List HolidayRule → List HolidayRule → List Bool → Type 0
-AreOpenSoFar all rest opened = (others : List Bool) → AreOpen rest others → AreOpen all (opened ++ others)
-
-pub open_more : (all : List HolidayRule) (rule : HolidayRule) (more : List HolidayRule) (opened : List Bool) (is : Bool)
-    → AreOpenSoFar all (rule ∷ more) opened → Opens rule is → AreOpenSoFar all more (opened ++ is ∷ [])
-open_more all rule more opened is so_far opens others are =
-    subst (AreOpen all) (sym (append_assoc opened (is ∷ []) others)) (so_far (is ∷ others) (opens, are))
-
-pub all_open : (all rest : List HolidayRule) (opened : List Bool) → AreOpenSoFar all rest opened → rest ≡ [] → AreOpen all opened
-all_open all rest opened so_far none =
-    subst (AreOpen all) (append-nil opened)
-    (so_far [] (subst (λ (rs : List HolidayRule). AreOpen rs []) (sym none) tt))

@@ -1,11 +1,11 @@
 -- Rules of hours are open where the rules of the text say so.
-use Rattle.std.proofs.Common.{◌≡◌, ◌∙◌, ap, refl, sym, subst, ◌⊎◌, inl, inr, ◌↔◌, ℕ, Bool, true, false, map}
-use Rattle.std.proofs.Common.{List, [], ◌∷◌, ◌++◌, Option, ℤ}
-use Rattle.std.specs.Prelude.{◌&&◌, ◌||◌, not, if◌then◌else◌, is_some, Some, None}
-use Rattle.gtd_hours.specs.Opening.{InSpans, IsOnMatch, IsOpen, IsOpenAfter, IsOpenBy}
+use Rattle.std.proofs.Common.{◌≡◌, refl, sym, subst, ◌⊎◌, inl, inr, ◌↔◌, Bool, true, false}
+use Rattle.std.proofs.Common.{List, [], ◌∷◌, ◌++◌, ℤ}
+use Rattle.std.specs.Prelude.{is_some}
+use Rattle.gtd_hours.specs.Opening.{InSpans, IsClosedBy, IsOnMatch, IsOpen, IsOpenAfter, IsOpenBy}
 use Rattle.gtd_hours.specs.declared.hours.Hours.{Hours}
 use Rattle.gtd_hours.specs.declared.hours.Link.{Link}
-use Rattle.gtd_hours.specs.declared.hours.Link.TheVariants.{Also, Instead}
+use Rattle.gtd_hours.specs.declared.hours.Link.TheVariants.{Also, Fallback, Instead}
 use Rattle.gtd_hours.specs.declared.hours.Modifier.{Modifier}
 use Rattle.gtd_hours.specs.declared.hours.Modifier.TheVariants.{Closed, Open}
 use Rattle.gtd_hours.specs.declared.hours.Rule.{Rule}
@@ -13,21 +13,16 @@ use Rattle.gtd_hours.specs.declared.hours.Selector.{Selector}
 use Rattle.gtd_hours_text.specs.Standing.{StandsFor}
 use Rattle.gtd_hours_text.specs.facts.OneMeaning.{same_rules}
 use Rattle.gtd_hours_text.specs.facts.SameRules.{SameRule, SameRules}
-use Rattle.gtd_hours_holiday_rules.specs.Rules.{AreAdded, said_by}
 use Rattle.gtd_hours_holiday_rules.specs.declared.rules.HolidayRule.{HolidayRule}
 use Rattle.gtd_hours_holiday_rules.specs.declared.text.HolidayText.{HolidayText}
-use Rattle.gtd_hours_known.specs.Given.{or_later}
-use Rattle.gtd_hours_known.specs.Needs.{closes, first_need, unread}
 use Rattle.gtd_hours_known.specs.Reading.{IsKnown}
-use Rattle.gtd_hours_known.specs.Rules.{AreGivenDays, AreHolidayRules, AreOpen, AreSpoken, AreWithHolidays}
-use Rattle.gtd_hours_known.specs.Rules.{is_open, opens, says_nothing}
+use Rattle.gtd_hours_known.specs.Rules.{AreGivenDays, AreHolidayRules, AreSpoken, AreWithHolidays}
 use Rattle.gtd_hours_known.specs.Said.{AreOwnRules, ClosedAfter, InSpansOf, IsClosedThen, IsOnDayOf, IsOpenFrom, IsOpenThen}
 use Rattle.gtd_hours_known.specs.Said.{IsOwnRule, IsSaidOpen, OpenAfter}
-use Rattle.gtd_hours_known.specs.declared.fault.KnownFault.{KnownFault}
 use Rattle.gtd_hours_known.specs.declared.known.Known.{Known}
-use Rattle.gtd_hours_known.proofs.SaidDays.{IsMadeOf, made_of, match_of_same, same_match, same_spans, spans_of_same}
+use Rattle.gtd_hours_known.proofs.SaidDays.{made_of, match_of_same, same_match, same_spans, spans_of_same}
 
--- ---- rules of hours
+-- ---- what a rule says, by its spans and days
 
 either_iff : (A B C D : Type 0) → (A ↔ B) → (C ↔ D) → (A ⊎ C) ↔ (B ⊎ D)
 either_iff A B C D p q = (
@@ -38,24 +33,11 @@ either_iff A B C D p q = (
 without_iff : (A B C D : Type 0) → (A ↔ B) → (C ↔ D) → (A × (C → ⊥)) ↔ (B × (D → ⊥))
 without_iff A B C D p q = ((λ h. (p.0 h.0, (λ d. h.1 (q.1 d)))), (λ h. (p.1 h.0, (λ c. h.1 (q.0 c)))))
 
--- What a rule makes open, by its spans and days.
-abbrev By : Modifier → Link → Type 0 → Type 0 → Type 0 → Type 0
-By Closed l S T P = P × (S → ⊥)
-By Open Also S T P = P ⊎ S
-By Open Instead S T P = (P × (T → ⊥)) ⊎ S
-
-by_iff : (m : Modifier) (l : Link) (S S' T T' P P' : Type 0) → (S ↔ S') → (T ↔ T') → (P ↔ P')
-    → By m l S T P ↔ By m l S' T' P'
-by_iff Closed l S S' T T' P P' s t p = without_iff P P' S S' p s
-by_iff Open Also S S' T T' P P' s t p = either_iff P P' S S' p s
-by_iff Open Instead S S' T T' P P' s t p =
-    either_iff (P × (T → ⊥)) (P' × (T' → ⊥)) S S' (without_iff P P' T T' p t) s
-
-open_by : (m : Modifier) (l : Link) (rule : Rule) (P : Type 0) (s : ℤ)
-    → IsOpenBy m l rule P s ↔ By m l (InSpans rule.kinds.items rule.times.items s) (IsOnMatch rule.kinds.items s) P
-open_by Closed l rule P s = ((λ h. h), (λ h. h))
-open_by Open Also rule P s = ((λ h. h), (λ h. h))
-open_by Open Instead rule P s = ((λ h. h), (λ h. h))
+without_two : (A B C D E F : Type 0) → (A ↔ B) → (C ↔ D) → (E ↔ F) → (A × (C → ⊥) × (E → ⊥)) ↔ (B × (D → ⊥) × (F → ⊥))
+without_two A B C D E F p q r = (
+  (λ h. (p.0 h.0, (λ d. h.1 (q.1 d)), (λ f. h.2 (r.1 f)))),
+  (λ h. (p.1 h.0, (λ c. h.1 (q.0 c)), (λ e. h.2 (r.0 e)))),
+)
 
 same_iff : (A : Type 0) → A ↔ A
 same_iff A = ((λ h. h), (λ h. h))
@@ -63,108 +45,115 @@ same_iff A = ((λ h. h), (λ h. h))
 then_iff : (A B C : Type 0) → (A ↔ B) → (B ↔ C) → A ↔ C
 then_iff A B C p q = ((λ a. q.0 (p.0 a)), (λ c. p.1 (q.1 c)))
 
-back_iff : (A B : Type 0) → (A ↔ B) → B ↔ A
-back_iff A B p = (p.1, p.0)
+opens_iff : (u : Bool) (m : Modifier) (l : Link) (S S' T T' P P' C C' : Type 0) → (S ↔ S') → (T ↔ T') → (P ↔ P') → (C ↔ C')
+    → IsOpenThen u m l S T P C ↔ IsOpenThen u m l S' T' P' C'
+opens_iff true m l S S' T T' P P' C C' s t p c = p
+opens_iff false Open Instead S S' T T' P P' C C' s t p c =
+    either_iff (P × (T → ⊥)) (P' × (T' → ⊥)) S S' (without_iff P P' T T' p t) s
+opens_iff false Open Also S S' T T' P P' C C' s t p c = either_iff P P' S S' p s
+opens_iff false Open Fallback S S' T T' P P' C C' s t p c =
+    either_iff P P' (S × (C → ⊥)) (S' × (C' → ⊥)) p (without_iff S S' C C' s c)
+opens_iff false Closed Instead S S' T T' P P' C C' s t p c = without_iff P P' S S' p s
+opens_iff false Closed Also S S' T T' P P' C C' s t p c = without_iff P P' S S' p s
+opens_iff false Closed Fallback S S' T T' P P' C C' s t p c = p
 
-by_same : (m : Modifier) (l : Link) (rule : Rule) (P P' : Type 0) (s : ℤ) → (P ↔ P')
-    → IsOpenBy m l rule P s ↔ IsOpenBy m l rule P' s
-by_same m l rule P P' s p =
-    then_iff _ _ _ (open_by m l rule P s)
-    (then_iff _ _ _ (by_iff m l _ _ _ _ P P' (same_iff _) (same_iff _) p) (back_iff _ _ (open_by m l rule P' s)))
+closes_iff : (u : Bool) (m : Modifier) (l : Link) (S S' T T' P P' C C' : Type 0) → (S ↔ S') → (T ↔ T') → (P ↔ P') → (C ↔ C')
+    → IsClosedThen u m l S T P C ↔ IsClosedThen u m l S' T' P' C'
+closes_iff true m l S S' T T' P P' C C' s t p c = c
+closes_iff false Open Instead S S' T T' P P' C C' s t p c = without_two C C' T T' S S' c t s
+closes_iff false Open Also S S' T T' P P' C C' s t p c = without_iff C C' S S' c s
+closes_iff false Open Fallback S S' T T' P P' C C' s t p c = c
+closes_iff false Closed Instead S S' T T' P P' C C' s t p c = either_iff C C' S S' c s
+closes_iff false Closed Also S S' T T' P P' C C' s t p c = either_iff C C' S S' c s
+closes_iff false Closed Fallback S S' T T' P P' C C' s t p c =
+    either_iff C C' (S × (P → ⊥)) (S' × (P' → ⊥)) c (without_iff S S' P P' s p)
 
-after_same : (rules : List Rule) (P P' : Type 0) (s : ℤ) → (P ↔ P') → IsOpenAfter rules P s ↔ IsOpenAfter rules P' s
-after_same [] P P' s p = p
-after_same (rule ∷ rules) P P' s p =
-    after_same rules (IsOpenBy rule.modifier rule.link rule P s) (IsOpenBy rule.modifier rule.link rule P' s) s
-    (by_same rule.modifier rule.link rule P P' s p)
+-- A rule of hours says this.
+open_by : (m : Modifier) (l : Link) (rule : Rule) (P C : Type 0) (s : ℤ) → IsOpenBy m l rule P C s
+    ↔ IsOpenThen false m l (InSpans rule.kinds.items rule.times.items s) (IsOnMatch rule.kinds.items s) P C
+open_by Open Instead rule P C s = same_iff _
+open_by Open Also rule P C s = same_iff _
+open_by Open Fallback rule P C s = same_iff _
+open_by Closed Instead rule P C s = same_iff _
+open_by Closed Also rule P C s = same_iff _
+open_by Closed Fallback rule P C s = same_iff _
 
--- ---- what a rule of the text makes open
+closed_by : (m : Modifier) (l : Link) (rule : Rule) (P C : Type 0) (s : ℤ) → IsClosedBy m l rule P C s
+    ↔ IsClosedThen false m l (InSpans rule.kinds.items rule.times.items s) (IsOnMatch rule.kinds.items s) P C
+closed_by Open Instead rule P C s = same_iff _
+closed_by Open Also rule P C s = same_iff _
+closed_by Open Fallback rule P C s = same_iff _
+closed_by Closed Instead rule P C s = same_iff _
+closed_by Closed Also rule P C s = same_iff _
+closed_by Closed Fallback rule P C s = same_iff _
 
--- An unknown rule, and a closed fallback rule, make nothing open.
-abbrev Then : Bool → Bool → Modifier → Link → Type 0 → Type 0 → Type 0 → Type 0
-Then true fb m l S T P = P
-Then false true Closed l S T P = P
-Then false true Open l S T P = By Open l S T P
-Then false false m l S T P = By m l S T P
+-- with the modifier and the link of another rule
+open_as : (m n : Modifier) (l k : Link) (rule : Rule) (P C : Type 0) (s : ℤ) → m ≡ n → l ≡ k → IsOpenBy m l rule P C s
+    ↔ IsOpenThen false n k (InSpans rule.kinds.items rule.times.items s) (IsOnMatch rule.kinds.items s) P C
+open_as m n l k rule P C s e f =
+    subst (λ (x : Modifier). IsOpenBy m l rule P C s
+    ↔ IsOpenThen false x k (InSpans rule.kinds.items rule.times.items s) (IsOnMatch rule.kinds.items s) P C) e
+    (subst (λ (x : Link). IsOpenBy m l rule P C s
+    ↔ IsOpenThen false m x (InSpans rule.kinds.items rule.times.items s) (IsOnMatch rule.kinds.items s) P C) f
+    (open_by m l rule P C s))
 
-made_by : (known : Known) (from : HolidayRule) (rule made : Rule) (m : Modifier) (P : Type 0) (s : ℤ)
-    → IsMadeOf known from rule made → rule.modifier ≡ m → IsOpenBy made.modifier made.link made P s
-    ↔ By m from.link (InSpansOf known from rule s) (IsOnDayOf known from rule s) P
-made_by known from rule made m P s is e =
-    let shape : IsOpenBy made.modifier made.link made P s ≡ IsOpenBy m from.link made P s =
-    ap (λ (x : Modifier). IsOpenBy x made.link made P s) (is.modifier ∙ e)
-    ∙ ap (λ (l : Link). IsOpenBy m l made P s) is.link in
-    then_iff _ _ _ ((λ h. subst (λ (X : Type 0). X) shape h), (λ h. subst (λ (X : Type 0). X) (sym shape) h))
-    (then_iff _ _ _ (open_by m from.link made P s)
-    (by_iff m from.link _ _ _ _ P P (same_spans known from rule made s is) (same_match known from rule made s is) (same_iff P)))
+closed_as : (m n : Modifier) (l k : Link) (rule : Rule) (P C : Type 0) (s : ℤ) → m ≡ n → l ≡ k → IsClosedBy m l rule P C s
+    ↔ IsClosedThen false n k (InSpans rule.kinds.items rule.times.items s) (IsOnMatch rule.kinds.items s) P C
+closed_as m n l k rule P C s e f =
+    subst (λ (x : Modifier). IsClosedBy m l rule P C s
+    ↔ IsClosedThen false x k (InSpans rule.kinds.items rule.times.items s) (IsOnMatch rule.kinds.items s) P C) e
+    (subst (λ (x : Link). IsClosedBy m l rule P C s
+    ↔ IsClosedThen false m x (InSpans rule.kinds.items rule.times.items s) (IsOnMatch rule.kinds.items s) P C) f
+    (closed_by m l rule P C s))
 
-one_made : (known : Known) (from : HolidayRule) (days : List Selector) (rule : Rule) (made others : List Rule) (m : Modifier)
-    (P : Type 0) (s : ℤ) → rule.modifier ≡ m → AreGivenDays known from.holidays.items days
-    → AreWithHolidays from days (rule ∷ []) made → IsOpenAfter (made ++ others) P s
-    ↔ IsOpenAfter others (By m from.link (InSpansOf known from rule s) (IsOnDayOf known from rule s) P) s
-one_made known from days rule [] others m P s e given is = absurd is
-one_made known from days rule (made ∷ []) others m P s e given is =
-    after_same others _ _ s (made_by known from rule made m P s (made_of known from days rule made given is.0) e)
-one_made known from days rule (made ∷ more ∷ rest) others m P s e given is = absurd is.1
+after_same : (rules : List Rule) (P P' C C' : Type 0) (s : ℤ) → (P ↔ P') → (C ↔ C')
+    → IsOpenAfter rules P C s ↔ IsOpenAfter rules P' C' s
+after_same [] P P' C C' s p c = p
+after_same (rule ∷ rules) P P' C C' s p c =
+    let S = InSpans rule.kinds.items rule.times.items s in
+    let T = IsOnMatch rule.kinds.items s in
+    let m = rule.modifier in
+    let l = rule.link in
+    let o = opens_iff false m l S S T T P P' C C' (same_iff S) (same_iff T) p c in
+    let k = closes_iff false m l S S T T P P' C C' (same_iff S) (same_iff T) p c in
+    let a = open_by m l rule P C s in
+    let b = open_by m l rule P' C' s in
+    let x = closed_by m l rule P C s in
+    let y = closed_by m l rule P' C' s in
+    after_same rules _ _ _ _ s ((λ h. b.1 (o.0 (a.0 h))), (λ h. a.1 (o.1 (b.0 h))))
+    ((λ h. y.1 (k.0 (x.0 h))), (λ h. x.1 (k.1 (y.0 h))))
 
-none_made : (made others : List Rule) (P : Type 0) (s : ℤ) → made ≡ [] → IsOpenAfter (made ++ others) P s
-    ↔ IsOpenAfter others P s
-none_made [] others P s e = same_iff _
-none_made (rule ∷ rules) others P s e = absurd cc
+-- ---- what a rule of the text says
 
-made_then : (u fb : Bool) (m : Modifier) (nothing : Bool) (known : Known) (from : HolidayRule) (days : List Selector)
-    (rule : Rule) (made others : List Rule) (P : Type 0) (s : ℤ) → rule.modifier ≡ m
-    → nothing ≡ (u || (fb && not (is_open m))) → AreGivenDays known from.holidays.items days
-    → AreSpoken nothing from days (rule ∷ []) made → IsOpenAfter (made ++ others) P s
-    ↔ IsOpenAfter others (Then u fb m from.link (InSpansOf known from rule s) (IsOnDayOf known from rule s) P) s
-made_then true fb m true known from days rule made others P s e n given is = none_made made others P s is
-made_then true fb m false known from days rule made others P s e n given is = absurd cc
-made_then false true Closed true known from days rule made others P s e n given is = none_made made others P s is
-made_then false true Closed false known from days rule made others P s e n given is = absurd cc
-made_then false true Open true known from days rule made others P s e n given is = absurd cc
-made_then false true Open false known from days rule made others P s e n given is =
-    one_made known from days rule made others Open P s e given is
-made_then false false m true known from days rule made others P s e n given is = absurd cc
-made_then false false m false known from days rule made others P s e n given is =
-    one_made known from days rule made others m P s e given is
+one_made : (known : Known) (from : HolidayRule) (days : List Selector) (rule : Rule) (made others : List Rule)
+    (P C : Type 0) (s : ℤ) → AreGivenDays known from.holidays.items days → AreWithHolidays from days (rule ∷ []) made
+    → IsOpenAfter (made ++ others) P C s ↔ IsOpenAfter others
+    (IsOpenThen false rule.modifier from.link (InSpansOf known from rule s) (IsOnDayOf known from rule s) P C)
+    (IsClosedThen false rule.modifier from.link (InSpansOf known from rule s) (IsOnDayOf known from rule s) P C) s
+one_made known from days rule [] others P C s given is = absurd is
+one_made known from days rule (made ∷ []) others P C s given is =
+    let own = made_of known from days rule made given is.0 in
+    let spans = same_spans known from rule made s own in
+    let match = same_match known from rule made s own in
+    after_same others _ _ _ _ s
+    (then_iff _ _ _ (open_as made.modifier rule.modifier made.link from.link made P C s own.modifier own.link)
+    (opens_iff false rule.modifier from.link _ _ _ _ P P C C spans match (same_iff P) (same_iff C)))
+    (then_iff _ _ _ (closed_as made.modifier rule.modifier made.link from.link made P C s own.modifier own.link)
+    (closes_iff false rule.modifier from.link _ _ _ _ P P C C spans match (same_iff P) (same_iff C)))
+one_made known from days rule (made ∷ more ∷ rest) others P C s given is = absurd is.1
 
--- ---- what the rule says
+none_made : (made others : List Rule) (P C : Type 0) (s : ℤ) → made ≡ [] → IsOpenAfter (made ++ others) P C s
+    ↔ IsOpenAfter others P C s
+none_made [] others P C s e = same_iff _
+none_made (rule ∷ rules) others P C s e = absurd cc
 
--- Where nothing is said to be closed, an open fallback rule opens its spans.
-said_then : (u fb : Bool) (m : Modifier) (l : Link) (closed : Bool) (S T P O C : Type 0) → (P ↔ O)
-    → (closed ≡ false → C → ⊥) → (fb ≡ true → l ≡ Also)
-    → (u ≡ false → fb ≡ true → is_open m ≡ true → closed ≡ false)
-    → Then u fb m l S T P ↔ IsOpenThen u fb m l S T O C
-said_then true fb m l closed S T P O C p none added allowed = p
-said_then false true Closed l closed S T P O C p none added allowed = p
-said_then false true Open Also closed S T P O C p none added allowed =
-    let free = none (allowed refl refl refl) in (
-      (λ h. elim h [ inl a ↦ inl (p.0 a) | inr a ↦ inr (a, free) ]),
-      (λ h. elim h [ inl a ↦ inl (p.1 a) | inr a ↦ inr a.0 ]),
-    )
-said_then false true Open Instead closed S T P O C p none added allowed = absurd (let e = added refl in cc)
-said_then false false Open Also closed S T P O C p none added allowed = either_iff P O S S p (same_iff S)
-said_then false false Open Instead closed S T P O C p none added allowed =
-    either_iff (P × (T → ⊥)) (O × (T → ⊥)) S S (without_iff P O T T p (same_iff T)) (same_iff S)
-said_then false false Closed l closed S T P O C p none added allowed = without_iff P O S S p (same_iff S)
-
-or_none : (closed other : Bool) → (closed || other) ≡ false → closed ≡ false
-or_none false other e = refl
-or_none true other e = absurd cc
-
-or_true : (closed : Bool) → (closed || true) ≡ false → ⊥
-or_true true e = cc
-or_true false e = cc
-
--- It says nothing to be closed if it is no closed rule.
-closed_then : (u fb : Bool) (m : Modifier) (l : Link) (closed : Bool) (S T O C : Type 0) → (closed ≡ false → C → ⊥)
-    → (closed || (not (is_open m) && not u)) ≡ false → IsClosedThen u fb m l S T O C → ⊥
-closed_then true fb m l closed S T O C none e h = none (or_none closed _ e) h
-closed_then false true Open l closed S T O C none e h = none (or_none closed _ e) h
-closed_then false true Closed l closed S T O C none e h = or_true closed e
-closed_then false false Open Also closed S T O C none e h = none (or_none closed _ e) h.0
-closed_then false false Open Instead closed S T O C none e h = none (or_none closed _ e) h.0
-closed_then false false Closed l closed S T O C none e h = or_true closed e
+made_then : (u : Bool) (known : Known) (from : HolidayRule) (days : List Selector) (rule : Rule) (made others : List Rule)
+    (P C : Type 0) (s : ℤ) → AreGivenDays known from.holidays.items days → AreSpoken u from days (rule ∷ []) made
+    → IsOpenAfter (made ++ others) P C s ↔ IsOpenAfter others
+    (IsOpenThen u rule.modifier from.link (InSpansOf known from rule s) (IsOnDayOf known from rule s) P C)
+    (IsClosedThen u rule.modifier from.link (InSpansOf known from rule s) (IsOnDayOf known from rule s) P C) s
+made_then true known from days rule made others P C s given is = none_made made others P C s is
+made_then false known from days rule made others P C s given is = one_made known from days rule made others P C s given is
 
 -- ---- of the own texts
 
@@ -185,82 +174,47 @@ own_one from rule hours own stands =
     one_of rule hours.rules.items (subst (λ (l : List Rule). SameRules l hours.rules.items) own.2
     (same_rules from.text.items own.0 hours own.1 stands))
 
-or_false : (b : Bool) → (b || false) ≡ b
-or_false true = refl
-or_false false = refl
+-- what the rule says that stands there is what its own rule says
+same_open : (u : Bool) (m n : Modifier) (l : Link) (S S' T T' P O C D : Type 0) → n ≡ m → (S ↔ S') → (T ↔ T') → (P ↔ O)
+    → (C ↔ D) → IsOpenThen u n l S T P C ↔ IsOpenThen u m l S' T' O D
+same_open u m n l S S' T T' P O C D e s t p c =
+    subst (λ (x : Modifier). IsOpenThen u n l S T P C ↔ IsOpenThen u x l S' T' O D) e
+    (opens_iff u n l S S' T T' P O C D s t p c)
 
-opens_one : (rule : Rule) (rules : List Rule) → IsOne rule rules → opens rules ≡ is_open rule.modifier
-opens_one rule rules one =
-    ap opens one.is ∙ or_false (is_open one.one.modifier) ∙ ap is_open (sym one.same.modifier)
-
-then_spans : (u fb : Bool) (m : Modifier) (l : Link) (S S' T T' P : Type 0) → (S ↔ S') → (T ↔ T')
-    → Then u fb m l S T P ↔ Then u fb m l S' T' P
-then_spans true fb m l S S' T T' P s t = same_iff P
-then_spans false true Closed l S S' T T' P s t = same_iff P
-then_spans false true Open l S S' T T' P s t = by_iff Open l S S' T T' P P s t (same_iff P)
-then_spans false false m l S S' T T' P s t = by_iff m l S S' T T' P P s t (same_iff P)
-
--- ---- what rules need
-
-first_none : (a b : Option KnownFault) → or_later a b ≡ None → (a ≡ None) × (b ≡ None)
-first_none None b e = (refl, e)
-first_none (Some bad) b e = absurd cc
-
--- No open fallback rule stands behind a closed one.
-none_unread : (u : Bool) (fallback : Option ℕ) (closed opened : Bool)
-    → (if closed && opened && not u then unread fallback else None) ≡ None → u ≡ false → is_some fallback ≡ true
-    → opened ≡ true → closed ≡ false
-none_unread u fallback false opened e a b c = refl
-none_unread true fallback true opened e a b c = absurd cc
-none_unread false None true opened e a b c = absurd cc
-none_unread false (Some place) true true e a b c = absurd cc
-none_unread false (Some place) true false e a b c = absurd cc
+same_closed : (u : Bool) (m n : Modifier) (l : Link) (S S' T T' P O C D : Type 0) → n ≡ m → (S ↔ S') → (T ↔ T') → (P ↔ O)
+    → (C ↔ D) → IsClosedThen u n l S T P C ↔ IsClosedThen u m l S' T' O D
+same_closed u m n l S S' T T' P O C D e s t p c =
+    subst (λ (x : Modifier). IsClosedThen u n l S T P C ↔ IsClosedThen u x l S' T' O D) e
+    (closes_iff u n l S S' T T' P O C D s t p c)
 
 -- ---- all rules
 
-none_left : (made : List Rule) (P O : Type 0) (s : ℤ) → made ≡ [] → (P ↔ O) → IsOpenAfter made P s ↔ O
-none_left [] P O s e p = p
-none_left (rule ∷ rules) P O s e p = absurd cc
+none_left : (made : List Rule) (P O C : Type 0) (s : ℤ) → made ≡ [] → (P ↔ O) → IsOpenAfter made P C s ↔ O
+none_left [] P O C s e p = p
+none_left (rule ∷ rules) P O C s e p = absurd cc
 
-hours_say : (known : Known) (closed : Bool) (rules : List HolidayRule) (opened : List Bool) (made own : List Rule)
-    (P O C : Type 0) (s : ℤ) → first_need known closed rules opened ≡ None → AreOpen rules opened
-    → AreHolidayRules known rules made → AreAdded (map said_by rules) → AreOwnRules rules own → (P ↔ O)
-    → (closed ≡ false → C → ⊥) → IsOpenAfter made P s ↔ IsOpenFrom known rules own O C s
-hours_say known closed [] opened made own P O C s need are is added owns p none = none_left made P O s is p
-hours_say known closed (from ∷ rules) [] made own P O C s need are is added owns p none = absurd are
-hours_say known closed (from ∷ rules) (o ∷ opened) made [] P O C s need are is added owns p none = absurd owns
-hours_say known closed (from ∷ rules) (o ∷ opened) made (rule ∷ own) P O C s need are is added owns p none =
+hours_say : (known : Known) (rules : List HolidayRule) (made own : List Rule) (P O C D : Type 0) (s : ℤ)
+    → AreHolidayRules known rules made → AreOwnRules rules own → (P ↔ O) → (C ↔ D)
+    → IsOpenAfter made P C s ↔ IsOpenFrom known rules own O D s
+hours_say known [] made own P O C D s is owns p c = none_left made P O C s is p
+hours_say known (from ∷ rules) made [] P O C D s is owns p c = absurd owns
+hours_say known (from ∷ rules) made (rule ∷ own) P O C D s is owns p c =
     let u = is_some from.unknown in
-    let fb = is_some from.fallback in
-    let both = first_none _ _ need in
-    let here = first_none _ _ both.0 in
     let one = own_one from rule is.2.plain owns.0 is.2.stands in
-    let flag : o ≡ is_open rule.modifier =
-    are.0.same ∙ opens_one rule are.0.plain.rules.items (own_one from rule are.0.plain owns.0 are.0.stands) in
-    let nothing : says_nothing from (opens is.2.plain.rules.items) ≡ (u || (fb && not (is_open rule.modifier))) =
-    ap (says_nothing from) (opens_one rule is.2.plain.rules.items one) in
-    let spoken = subst (λ (l : List Rule). AreSpoken (says_nothing from (opens is.2.plain.rules.items)) from is.2.days l is.0)
-    one.is is.2.are in
-    let S = InSpansOf known from rule s in
-    let T = IsOnDayOf known from rule s in
-    let same = then_spans u fb rule.modifier from.link _ S _ T P (spans_of_same known from rule one.one s one.same)
-    (match_of_same known from rule one.one s one.same) in
-    let says = said_then u fb rule.modifier from.link closed S T P O C p none added.0
-    (λ a b c. none_unread u from.fallback closed o here.0 a b (flag ∙ c)) in
-    let free : (closed || closes from o) ≡ false → ClosedAfter known from rule O C s → ⊥ =
-    λ e h. closed_then u fb rule.modifier from.link closed S T O C none
-    (sym (ap (λ (b : Bool). closed || (not b && not u)) flag) ∙ e) h in
-    let first = made_then u fb rule.modifier _ known from is.2.days one.one is.0 is.1 P s (sym one.same.modifier) nothing
-    is.2.listed spoken in
-    let whole = subst (λ (l : List Rule). IsOpenAfter l P s ↔ IsOpenAfter is.1 (Then u fb rule.modifier from.link
-    (InSpansOf known from one.one s) (IsOnDayOf known from one.one s) P) s) (sym is.4) first in
+    let spoken = subst (λ (l : List Rule). AreSpoken u from is.2.days l is.0) one.is is.2.are in
+    let first = made_then u known from is.2.days one.one is.0 is.1 P C s is.2.listed spoken in
+    let whole = subst (λ (l : List Rule). IsOpenAfter l P C s ↔ IsOpenAfter is.1
+    (IsOpenThen u one.one.modifier from.link (InSpansOf known from one.one s) (IsOnDayOf known from one.one s) P C)
+    (IsClosedThen u one.one.modifier from.link (InSpansOf known from one.one s) (IsOnDayOf known from one.one s) P C) s)
+    (sym is.4) first in
+    let spans = spans_of_same known from rule one.one s one.same in
+    let match = match_of_same known from rule one.one s one.same in
     then_iff _ _ _ whole
-    (hours_say known (closed || closes from o) rules opened is.1 own _ (OpenAfter known from rule O C s)
-    (ClosedAfter known from rule O C s) s both.1 are.1 is.3 added.1 owns.1 (then_iff _ _ _ same says) free)
+    (hours_say known rules is.1 own _ (OpenAfter known from rule O D s) _ (ClosedAfter known from rule O D s) s is.3 owns.1
+    (same_open u rule.modifier one.one.modifier from.link _ _ _ _ P O C D (sym one.same.modifier) spans match p c)
+    (same_closed u rule.modifier one.one.modifier from.link _ _ _ _ P O C D (sym one.same.modifier) spans match p c))
 
-pub said : (known : Known) (found : HolidayText) (hours : Hours) (own : List Rule)
-    → AreAdded (map said_by found.rules.items) → IsKnown known found hours → AreOwnRules found.rules.items own → (s : ℤ)
-    → IsOpen hours s ↔ IsSaidOpen known found.rules.items own s
-said known found hours own added is owns s =
-    hours_say known false found.rules.items is.opened hours.rules.items own ⊥ ⊥ ⊥ s is.no_need is.are_open is.rules added owns
-    (same_iff ⊥) (λ e h. h)
+pub said : (known : Known) (found : HolidayText) (hours : Hours) (own : List Rule) → IsKnown known found hours
+    → AreOwnRules found.rules.items own → (s : ℤ) → IsOpen hours s ↔ IsSaidOpen known found.rules.items own s
+said known found hours own is owns s =
+    hours_say known found.rules.items hours.rules.items own ⊥ ⊥ ⊥ ⊥ s is.rules owns (same_iff ⊥) (same_iff ⊥)

@@ -1,5 +1,5 @@
 -- The hours of a text with holidays, comments, unknown and fallback rules, as it is written, and its first fault.
-use Rattle.std.specs.Prelude.{◌≡◌, ◌⊎◌, ℕ, Bool, false, List, [], Some, None, ℤ}
+use Rattle.std.specs.Prelude.{◌≡◌, ◌⊎◌, ℕ, List, [], Some, None, ℤ}
 use Rattle.gtd_hours.specs.declared.hours.Hours.{Hours}
 use Rattle.gtd_hours_grammar.specs.Faults.{IsFirstFault}
 use Rattle.gtd_hours_grammar.specs.declared.fault.HoursFault.{HoursFault}
@@ -13,7 +13,7 @@ use Rattle.gtd_hours_loose.specs.Reading.{IsStrict}
 use Rattle.gtd_hours_known.specs.Faults.{bad_token, told}
 use Rattle.gtd_hours_known.specs.Marks.{HasMarks}
 use Rattle.gtd_hours_known.specs.Needs.{first_need}
-use Rattle.gtd_hours_known.specs.Rules.{AreAllStrict, AreHolidayRules, AreOpen, IsHolidayUncovered, IsRuleFault}
+use Rattle.gtd_hours_known.specs.Rules.{AreAllStrict, AreHolidayRules, IsHolidayUncovered, IsRuleFault}
 use Rattle.gtd_hours_known.specs.declared.fault.KnownFault.{KnownFault}
 use Rattle.gtd_hours_known.specs.declared.fault.KnownFault.TheVariants as fault
 use Rattle.gtd_hours_known.specs.declared.fault.KnownReadFault.{KnownReadFault}
@@ -30,9 +30,7 @@ pub record IsSound (found : HolidayText) : Type 0 where
 
 -- All is given and known that its rules need, and these are its rules with the holidays that the table has in the years.
 pub record IsKnown (known : Known) (found : HolidayText) (hours : Hours) : Type 0 where
-  pub opened : List Bool
-  pub are_open : AreOpen found.rules.items opened
-  pub no_need : first_need known false found.rules.items opened ≡ None
+  pub no_need : first_need known found.rules.items ≡ None
   pub rules : AreHolidayRules known found.rules.items hours.rules.items
 
 -- The first fault of a text with holidays, comments, unknown or fallback rules, in this order: that of its checked text; that
@@ -43,11 +41,10 @@ pub data IsHolidayFault (known : Known) (found : HolidayText) (bad : KnownFault)
       → IsHolidayFault known found bad
   own : (first : HoursFault) → IsStrict found.checked.items → IsRuleFault found.rules.items first → bad ≡ fault.Hours first
       → IsHolidayFault known found bad
-  needed : (opened : List Bool) → IsSound found → AreOpen found.rules.items opened
-      → first_need known false found.rules.items opened ≡ Some bad → IsHolidayFault known found bad
-  uncovered : (opened : List Bool) → (place : ℕ) → (day : ℤ) → IsSound found → AreOpen found.rules.items opened
-      → first_need known false found.rules.items opened ≡ None → IsHolidayUncovered known found.rules.items place day
-      → bad ≡ fault.Uncovered place day → IsHolidayFault known found bad
+  needed : IsSound found → first_need known found.rules.items ≡ Some bad → IsHolidayFault known found bad
+  uncovered : (place : ℕ) → (day : ℤ) → IsSound found → first_need known found.rules.items ≡ None
+      → IsHolidayUncovered known found.rules.items place day → bad ≡ fault.Uncovered place day
+      → IsHolidayFault known found bad
 
 -- ---- any text
 

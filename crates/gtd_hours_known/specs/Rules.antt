@@ -1,10 +1,8 @@
 -- The rules of hours that the rules of a text stand for.
-use Rattle.std.specs.Prelude.{◌≡◌, ◌⊎◌, ℕ, Bool, true, false, ◌&&◌, ◌||◌, not, List, [], ◌∷◌, ◌++◌, Option, Some, None}
+use Rattle.std.specs.Prelude.{◌≡◌, ◌⊎◌, ℕ, Bool, true, false, List, [], ◌∷◌, ◌++◌, Option, Some, None}
 use Rattle.std.specs.Prelude.{get_or, is_some, ℤ}
 use Rattle.gtd_hours.specs.declared.hours.Hours.{Hours}
 use Rattle.gtd_hours.specs.declared.hours.Link.{Link}
-use Rattle.gtd_hours.specs.declared.hours.Modifier.{Modifier}
-use Rattle.gtd_hours.specs.declared.hours.Modifier.TheVariants as modifier
 use Rattle.gtd_hours.specs.declared.hours.Rule.{Rule}
 use Rattle.gtd_hours.specs.declared.hours.Selector.{Selector}
 use Rattle.gtd_hours_grammar.specs.Faults.{IsFirstFault}
@@ -53,33 +51,6 @@ abbrev pub IsRuleFault : List HolidayRule → HoursFault → Type 0
 IsRuleFault [] bad = ⊥
 IsRuleFault (rule ∷ rules) bad = IsFirstFault rule.text.items bad ⊎ (IsStrict rule.text.items × IsRuleFault rules bad)
 
--- ---- whether rules are open
-
-abbrev pub is_open : Modifier → Bool
-is_open modifier.Open = true
-is_open modifier.Closed = false
-
--- one of the rules is open
-abbrev pub opens : List Rule → Bool
-opens [] = false
-opens (r ∷ rs) = is_open r.modifier || opens rs
-
--- Whether the rules that a rule's own text stands for are open.
-pub record Opens (rule : HolidayRule) (is : Bool) : Type 0 where
-  pub plain : Hours
-  pub stands : StandsFor rule.text.items plain
-  pub same : is ≡ opens plain.rules.items
-
--- and so for each rule
-abbrev pub AreOpen : List HolidayRule → List Bool → Type 0
-AreOpen [] [] = Unit {0}
-AreOpen (rule ∷ rules) (is ∷ opened) = Opens rule is × AreOpen rules opened
-AreOpen rules opened = ⊥
-
--- A rule that is unknown says nothing of what is open. Nor does a fallback rule that is closed, as no other one opens behind it.
-abbrev pub says_nothing : HolidayRule → Bool → Bool
-says_nothing rule opened = is_some rule.unknown || (is_some rule.fallback && not opened)
-
 -- ---- the table and the years
 
 pub record IsGiven (known : Known) (table : Holidays) (years : KnownYears) : Type 0 where
@@ -116,7 +87,7 @@ AreWithHolidays from days [] [] = Unit {0}
 AreWithHolidays from days (p ∷ plain) (m ∷ made) = HasHolidays from days p m × AreWithHolidays from days plain made
 AreWithHolidays from days plain made = ⊥
 
--- none of them if the rule says nothing
+-- none of them if the rule is unknown: it says nothing
 abbrev pub AreSpoken : Bool → HolidayRule → List Selector → List Rule → List Rule → Type 0
 AreSpoken true from days plain made = made ≡ []
 AreSpoken false from days plain made = AreWithHolidays from days plain made
@@ -128,7 +99,7 @@ pub record IsHolidayRule (known : Known) (from : HolidayRule) (made : List Rule)
   pub days : List Selector
   pub stands : StandsFor from.text.items plain
   pub listed : AreGivenDays known from.holidays.items days
-  pub are : AreSpoken (says_nothing from (opens plain.rules.items)) from days plain.rules.items made
+  pub are : AreSpoken (is_some from.unknown) from days plain.rules.items made
 
 -- what the rules stand for, one after another
 abbrev pub AreHolidayRules : Known → List HolidayRule → List Rule → Type 0

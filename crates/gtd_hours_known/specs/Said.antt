@@ -9,7 +9,7 @@ use Rattle.gtd_hours.specs.Writable.{selectors}
 use Rattle.gtd_hours.specs.declared.hours.Hours.{Hours}
 use Rattle.gtd_hours.specs.declared.hours.Kind.{Kind}
 use Rattle.gtd_hours.specs.declared.hours.Link.{Link}
-use Rattle.gtd_hours.specs.declared.hours.Link.TheVariants.{Also, Instead}
+use Rattle.gtd_hours.specs.declared.hours.Link.TheVariants.{Also, Fallback, Instead}
 use Rattle.gtd_hours.specs.declared.hours.Modifier.{Modifier}
 use Rattle.gtd_hours.specs.declared.hours.Modifier.TheVariants.{Closed, Open}
 use Rattle.gtd_hours.specs.declared.hours.Rule.{Rule}
@@ -64,34 +64,36 @@ IsOnDayOf known from rule s = (n : ℤ) × IsOnDay s n × MatchesRule known from
 
 -- ---- what a rule says
 
--- Whether a second is open after a rule: given whether the rule is unknown, and whether it is a fallback rule, which speaks of
--- what nothing is said of; its spans and its days; and whether the second was open, or said to be closed, before it.
-abbrev pub IsOpenThen : Bool → Bool → Modifier → Link → Type 0 → Type 0 → Type 0 → Type 0 → Type 0
-IsOpenThen true fallback modifier link Spans Days WasOpen WasClosed = WasOpen
-IsOpenThen false true Open link Spans Days WasOpen WasClosed = WasOpen ⊎ (Spans × (WasClosed → ⊥))
-IsOpenThen false true Closed link Spans Days WasOpen WasClosed = WasOpen
-IsOpenThen false false Open Also Spans Days WasOpen WasClosed = WasOpen ⊎ Spans
-IsOpenThen false false Open Instead Spans Days WasOpen WasClosed = (WasOpen × (Days → ⊥)) ⊎ Spans
-IsOpenThen false false Closed link Spans Days WasOpen WasClosed = WasOpen × (Spans → ⊥)
+-- Whether a second is open after a rule: given whether the rule is unknown; its spans and its days; and whether the second was
+-- open, or said to be closed, before it. A fallback rule speaks of what nothing is said of.
+abbrev pub IsOpenThen : Bool → Modifier → Link → Type 0 → Type 0 → Type 0 → Type 0 → Type 0
+IsOpenThen true modifier link Spans Days WasOpen WasClosed = WasOpen
+IsOpenThen false Open Instead Spans Days WasOpen WasClosed = (WasOpen × (Days → ⊥)) ⊎ Spans
+IsOpenThen false Open Also Spans Days WasOpen WasClosed = WasOpen ⊎ Spans
+IsOpenThen false Open Fallback Spans Days WasOpen WasClosed = WasOpen ⊎ (Spans × (WasClosed → ⊥))
+IsOpenThen false Closed Instead Spans Days WasOpen WasClosed = WasOpen × (Spans → ⊥)
+IsOpenThen false Closed Also Spans Days WasOpen WasClosed = WasOpen × (Spans → ⊥)
+IsOpenThen false Closed Fallback Spans Days WasOpen WasClosed = WasOpen
 
 -- and whether it is said to be closed
-abbrev pub IsClosedThen : Bool → Bool → Modifier → Link → Type 0 → Type 0 → Type 0 → Type 0 → Type 0
-IsClosedThen true fallback modifier link Spans Days WasOpen WasClosed = WasClosed
-IsClosedThen false true Open link Spans Days WasOpen WasClosed = WasClosed
-IsClosedThen false true Closed link Spans Days WasOpen WasClosed = WasClosed ⊎ (Spans × (WasOpen → ⊥))
-IsClosedThen false false Open Also Spans Days WasOpen WasClosed = WasClosed × (Spans → ⊥)
-IsClosedThen false false Open Instead Spans Days WasOpen WasClosed = WasClosed × (Days → ⊥) × (Spans → ⊥)
-IsClosedThen false false Closed link Spans Days WasOpen WasClosed = WasClosed ⊎ Spans
+abbrev pub IsClosedThen : Bool → Modifier → Link → Type 0 → Type 0 → Type 0 → Type 0 → Type 0
+IsClosedThen true modifier link Spans Days WasOpen WasClosed = WasClosed
+IsClosedThen false Open Instead Spans Days WasOpen WasClosed = WasClosed × (Days → ⊥) × (Spans → ⊥)
+IsClosedThen false Open Also Spans Days WasOpen WasClosed = WasClosed × (Spans → ⊥)
+IsClosedThen false Open Fallback Spans Days WasOpen WasClosed = WasClosed
+IsClosedThen false Closed Instead Spans Days WasOpen WasClosed = WasClosed ⊎ Spans
+IsClosedThen false Closed Also Spans Days WasOpen WasClosed = WasClosed ⊎ Spans
+IsClosedThen false Closed Fallback Spans Days WasOpen WasClosed = WasClosed ⊎ (Spans × (WasOpen → ⊥))
 
 abbrev pub OpenAfter : Known → HolidayRule → Rule → Type 0 → Type 0 → ℤ → Type 0
 OpenAfter known from rule WasOpen WasClosed s =
-    IsOpenThen (is_some from.unknown) (is_some from.fallback) rule.modifier from.link (InSpansOf known from rule s)
-    (IsOnDayOf known from rule s) WasOpen WasClosed
+    IsOpenThen (is_some from.unknown) rule.modifier from.link (InSpansOf known from rule s) (IsOnDayOf known from rule s)
+    WasOpen WasClosed
 
 abbrev pub ClosedAfter : Known → HolidayRule → Rule → Type 0 → Type 0 → ℤ → Type 0
 ClosedAfter known from rule WasOpen WasClosed s =
-    IsClosedThen (is_some from.unknown) (is_some from.fallback) rule.modifier from.link (InSpansOf known from rule s)
-    (IsOnDayOf known from rule s) WasOpen WasClosed
+    IsClosedThen (is_some from.unknown) rule.modifier from.link (InSpansOf known from rule s) (IsOnDayOf known from rule s)
+    WasOpen WasClosed
 
 -- ---- what all rules say
 

@@ -29,8 +29,6 @@ ghost use Rattle.gtd_hours_known.specs.Said.{AreOwnRules, IsSaidOpen};
 ghost use Rattle.gtd_hours_known.specs.declared.known.Known.{Known};
 ghost use Rattle.gtd_hours_known.specs.declared.known.KnownHours.{KnownHours};
 
-use gtd_hours_holiday_rules::laws::one_holiday_text;
-
 /// A day matches a rule whose holidays lead exactly if it matches the rule without them, and one of the holidays holds on it. So
 /// it is with all holidays of a rule without weekdays. With weekdays, other holidays are days beside these: of all other kinds
 /// one selector must hold, and of the weekdays or the holidays.
@@ -68,6 +66,4 @@ pub fn said_by_rules()
     ensures seconds { (known : Known) (text : List ℕ) (found : HolidayText) (hours : Hours) (own : List Rule)
         → IsHolidayText text found → IsKnown known found hours → AreOwnRules found.rules.items own
         → (second : ℤ) → IsOpen hours second ↔ IsSaidOpen known found.rules.items own second }
-{
-    one_holiday_text();
-}
+{}

@@ -15,7 +15,6 @@ pub mod laws;
 mod manner;
 mod marks;
 mod needs;
-mod opening;
 mod reader;
 mod rules;
 mod selectors;

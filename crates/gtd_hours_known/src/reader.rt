@@ -14,7 +14,6 @@ use crate::fault::{KnownFault, KnownReadFault, stopped};
 use crate::known::{Known, KnownHours};
 use crate::marks::{with_marks, without_marks};
 use crate::needs::first_need;
-use crate::opening::are_open;
 use crate::rules::{RulesStop, hours_of_rules};
 use gtd_hours_holiday_rules::{HolidayRule, HolidayText, holiday_text};
 use gtd_hours_text::{HoursTextFault, read_hours};
@@ -26,11 +25,10 @@ use std::alloc::Global;
 /// whichever stands first; the first fault of the text, or a place that people read in two ways; the first need of its rules,
 /// from left to right; `Uncovered` at the first holiday of whose kind the table does not say all in the years. A need is
 /// `Holidays` or `Years` at a holiday for which there is no table that says all of its kind for some day, or else no years are
-/// given; `Unknown` where an unknown rule is no fallback rule, or a fallback rule that is not unknown comes after it;
-/// `Unsupported` at the `||` of an open rule behind a closed one. `NoMemory` is answered only if memory was refused. A text
-/// without holidays asks neither for a table nor for years. No text is known whose rules are at fault by themselves, where the
-/// text with words in place of its holidays and comments is not; such a fault would come before the needs, at its place in the
-/// rule alone.
+/// given; `Unknown` where an unknown rule is no fallback rule, or a fallback rule that is not unknown comes after it. `NoMemory`
+/// is answered only if memory was refused. A text without holidays asks neither for a table nor for years. No text is known whose
+/// rules are at fault by themselves, where the text with words in place of its holidays and comments is not; such a fault would
+/// come before the needs, at its place in the rule alone.
 pub fn read_known_hours(
     alloc: Global,
     text: &[u8],
@@ -92,12 +90,9 @@ fn read_sound(
     ensures form { IfOk result (λ read. read.form ≡ None) }
     ensures fault { IfErr result (IsHolidayStop known.now found.now) }
 {
-    match are_open(alloc, found.rules.as_slice()) {
-        Err(_) => Err(KnownReadFault::NoMemory),
-        Ok(opened) => match first_need(known, found.rules.as_slice(), opened.as_slice()) {
-            Some(bad) => Err(KnownReadFault::Fault(bad)),
-            None => read_given(alloc, found.rules.as_slice(), known),
-        },
+    match first_need(known, found.rules.as_slice()) {
+        Some(bad) => Err(KnownReadFault::Fault(bad)),
+        None => read_given(alloc, found.rules.as_slice(), known),
     }
 }
 

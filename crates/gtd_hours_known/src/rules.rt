@@ -1,6 +1,6 @@
 //! The rules of a text, as rules of hours.
 
-ghost use Rattle.std.specs.Prelude.{◌≡◌, IfErr, IfOk, List, None, get_or};
+ghost use Rattle.std.specs.Prelude.{◌≡◌, IfErr, IfOk, List, None, get_or, is_some};
 ghost use Rattle.gtd_hours_loose.specs.Reading.{IsStrict};
 ghost use Rattle.gtd_hours_days.specs.declared.listed.Listed.{Listed};
 ghost use Rattle.gtd_hours_holidays.specs.declared.holidays.Holidays.{Holidays};
@@ -8,17 +8,18 @@ ghost use Rattle.gtd_hours_holidays.specs.declared.known_years.KnownYears.{Known
 ghost use Rattle.gtd_hours_known.specs.HolidayDays.{AreDaysOf, IsDaysFault};
 ghost use Rattle.gtd_hours_known.specs.Given.{AreAllGiven, none_given};
 ghost use Rattle.gtd_hours_known.specs.Rules.{AreAllStrict, AreGivenDays, AreHolidayRules, AreSpoken, AreWithHolidays};
-ghost use Rattle.gtd_hours_known.specs.Rules.{HasHolidays, IsDaysStop, IsHolidayRule, IsRuleStop, IsRulesStop, IsStopAt, opens};
-ghost use Rattle.gtd_hours_known.specs.Rules.{says_nothing};
+ghost use Rattle.gtd_hours_known.specs.Rules.{HasHolidays, IsDaysStop, IsHolidayRule, IsRuleStop, IsRulesStop, IsStopAt};
+ghost use Rattle.gtd_hours_known.specs.declared.rules.RulesStop.TheVariants as stop;
+ghost use Rattle.gtd_hours_text.specs.Standing.{StandsFor};
 
 use crate::joining::with_days;
 use crate::known::Known;
-use crate::opening::{opens, plain_hours};
 use crate::selectors::listed_selectors;
 use gtd_hours::{Hours, Rule, Selector};
 use gtd_hours_days::ListedFault;
 use gtd_hours_holiday_rules::HolidayRule;
 use gtd_hours_holidays::{Holidays, KnownYears};
+use gtd_hours_text::{HoursTextFault, read_hours};
 use std::alloc::{AllocError, Global};
 
 /// Why rules with holidays have no hours.
@@ -43,6 +44,21 @@ impl From<AllocError> for RulesStop {
 
     fn from(_: AllocError) -> RulesStop {
         RulesStop::NoMemory
+    }
+}
+
+// The hours that the own text of a rule stands for.
+fn plain_hours(alloc: Global, text: &[u8]) -> Result<Hours, RulesStop>
+    requires { IsStrict text.now }
+    ensures hours { IfOk result (λ hours. StandsFor text.now hours) }
+    ensures stop { IfErr result (λ why. why ≡ stop.NoMemory) }
+{
+    match read_hours(alloc, text) {
+        Ok(hours) => Ok(hours),
+        Err(why) => match why {
+            HoursTextFault::NoMemory => Err(RulesStop::NoMemory),
+            HoursTextFault::Fault(_) => unreachable!(),
+        },
     }
 }
 
@@ -144,12 +160,6 @@ fn holiday_days(
     }
 }
 
-fn says_nothing(rule: &HolidayRule, opened: bool) -> bool
-    ensures { result ≡ says_nothing rule.now opened }
-{
-    rule.unknown.is_some() || (rule.fallback.is_some() && !opened)
-}
-
 // The rules with the link and the holidays of a rule of the text, if it says something.
 fn spoken(
     alloc: Global,
@@ -158,9 +168,9 @@ fn spoken(
     days: &[Selector],
 ) -> Result<Vec<Rule>, AllocError>
     ensures { IfOk result
-        (λ made. AreSpoken (says_nothing from.now (opens plain.items)) from.now days.now plain.items made.items) }
+        (λ made. AreSpoken (is_some from.now.unknown) from.now days.now plain.items made.items) }
 {
-    if says_nothing(from, opens(plain.as_slice())) {
+    if from.unknown.is_some() {
         return Ok(Vec::new(alloc));
     }
     rules_with(alloc, from, plain, days)

@@ -122,6 +122,20 @@ pub fn nothing() -> Expr
     each_clock(clock_at(0), 0)
 }
 
+/// A copy of an expression.
+pub fn copied(alloc: Global, expr: &Expr) -> Result<Expr, AllocError>
+    ensures same { IfOk result (λ copy. tree_of copy ≡ tree_of expr.now) }
+{
+    match expr {
+        Expr::Leaf(basic) => Ok(Expr::Leaf(*basic)),
+        Expr::Join(op, left, right) => {
+            let left = copied(alloc, left)?;
+            let right = copied(alloc, right)?;
+            Ok(Expr::Join(*op, Box::new(alloc, left)?, Box::new(alloc, right)?))
+        }
+    }
+}
+
 /// The two, joined.
 pub fn join(alloc: Global, op: Op, left: Expr, right: Expr) -> Result<Expr, AllocError>
     ensures seconds { IfOk result (λ e. (s : ℤ) → InTree (tree_of e) s

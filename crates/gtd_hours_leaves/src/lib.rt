@@ -5,7 +5,7 @@
 
 pub use clock::Clock;
 pub use leaves::{
-    NO_DURATION, NO_PARTS, clock_at, each_clock, each_day, each_days, join, leaf, nothing,
+    NO_DURATION, NO_PARTS, clock_at, copied, each_clock, each_day, each_days, join, leaf, nothing,
     or_nothing, unite,
 };
 pub use numbers::{MOST_YEARS, week_days, year_days, year_run};

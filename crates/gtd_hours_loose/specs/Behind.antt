@@ -55,14 +55,20 @@ abbrev pub all_semicolons : List LooseToken → Bool
 all_semicolons [] = true
 all_semicolons (t ∷ ts) = is_semicolon t.kind && all_semicolons ts
 
--- A moment, a modifier or a comment.
+-- The first token of a moment: a time, an event of the sun, or the parenthesis around one.
+abbrev pub begins_moment : LooseKind → Bool
+begins_moment (kind.Time h m) = true
+begins_moment kind.Event = true
+begins_moment kind.OpenParenthesis = true
+begins_moment k = false
+
+-- The first token of a moment, a modifier or a comment.
 abbrev pub begins_hours : LooseKind → Bool
-begins_hours (kind.Time h m) = true
-begins_hours kind.Event = true
 begins_hours kind.Open = true
 begins_hours kind.Closed = true
 begins_hours kind.Comment = true
-begins_hours k = false
+begins_hours kind.Quoted = true
+begins_hours k = begins_moment k
 
 abbrev pub hours_follow : List LooseToken → Bool
 hours_follow [] = false
@@ -85,24 +91,46 @@ abbrev pub fate_of : Behind → LooseKind → List LooseToken → Fate
 fate_of b kind.Comma later = comma_fate b later
 fate_of b kind.Semicolon later = semicolon_fate b later
 fate_of b kind.Colon later = drop_if (is_days b && hours_follow later)
-fate_of b (kind.Time h m) later = if is_range b then fate.Joined else fate.Kept
-fate_of b k later = fate.Kept
+fate_of b k later = if is_range b && begins_moment k then fate.Joined else fate.Kept
 
 -- ---- what stands behind it then
 
 abbrev pub behind_time : Behind → Behind
 behind_time behind.PairDash = behind.Range
 behind_time behind.TimeDash = behind.Range
+behind_time behind.Inside = behind.Inside
+behind_time behind.EndInside = behind.EndInside
 behind_time b = behind.Time
 
 abbrev pub behind_dash : Behind → Behind
 behind_dash behind.Time = behind.TimeDash
 behind_dash behind.PairTime = behind.PairDash
+behind_dash behind.Inside = behind.Inside
+behind_dash behind.EndInside = behind.EndInside
 behind_dash b = behind.Other
+
+-- the sign of what is added to an event, or another word or sign
+abbrev pub behind_unread : Behind → Behind
+behind_unread behind.Inside = behind.Inside
+behind_unread behind.EndInside = behind.EndInside
+behind_unread b = behind.Other
+
+abbrev pub behind_open : Behind → Behind
+behind_open behind.TimeDash = behind.EndInside
+behind_open b = behind.Inside
+
+abbrev pub behind_close : Behind → Behind
+behind_close behind.Inside = behind.Time
+behind_close behind.EndInside = behind.Range
+behind_close b = behind.Other
 
 abbrev pub behind_kind : Behind → LooseKind → Behind
 behind_kind b (kind.Time h m) = behind_time b
+behind_kind b kind.Event = behind_time b
 behind_kind b kind.Dash = behind_dash b
+behind_kind b kind.Unread = behind_unread b
+behind_kind b kind.OpenParenthesis = behind_open b
+behind_kind b kind.CloseParenthesis = behind_close b
 behind_kind b kind.Comma = behind.Comma
 behind_kind b kind.Semicolon = behind.Semicolon
 behind_kind b k = if names_days k then behind.Days else behind.Other

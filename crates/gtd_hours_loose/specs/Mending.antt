@@ -14,7 +14,7 @@ use Rattle.gtd_hours_loose_tokens.specs.declared.token.LooseKind.{LooseKind}
 use Rattle.gtd_hours_loose_tokens.specs.declared.token.LooseKind.TheVariants as kind
 use Rattle.gtd_hours_loose_tokens.specs.declared.token.LooseToken.{LooseToken}
 use Rattle.gtd_hours_loose.specs.Behind.{after, fate_of, kind_here}
-use Rattle.gtd_hours_loose_tokens.specs.Signs.{other_space}
+use Rattle.gtd_hours_loose_tokens.specs.Signs.{end_length, other_space}
 
 -- From one place of a text up to but not including another.
 abbrev pub stretch : List ℕ → ℕ → ℕ → List ℕ
@@ -28,7 +28,13 @@ pub record Mended : Type 0 where
 
 -- ---- strict forms
 
--- The strict form of a token with this text. A comment is kept as it is; other words and signs are in lower case.
+-- What stands behind the first quote of a comment of a text processor, where the sign that ends it is put as a plain quote (34).
+abbrev pub plain_end : List ℕ → List ℕ
+plain_end [] = []
+plain_end (byte ∷ rest) = if nat_lt 0 (end_length byte rest) then 34 ∷ [] else byte ∷ plain_end rest
+
+-- The strict form of a token with this text. A comment is kept as it is, but that it stands in plain quotes; other words and
+-- signs are in lower case.
 abbrev pub form_of : LooseKind → List ℕ → List ℕ
 form_of (kind.Month m) written = month_name m
 form_of (kind.Weekday d) written = weekday_name d
@@ -37,6 +43,7 @@ form_of kind.PublicHoliday written = codes "PH"
 form_of kind.SchoolHoliday written = codes "SH"
 form_of kind.Dash written = codes "-"
 form_of kind.Comment written = written
+form_of kind.Quoted written = 34 ∷ plain_end (drop 3 written)
 form_of k written = map to_ascii_lowercase written
 
 -- ---- from left to right
@@ -103,6 +110,11 @@ pub record Holds (form : StrictForm) (ms : List Mended) : Type 0 where
 abbrev pub written_place : ℕ → ℕ → List Part → ℕ
 written_place place end [] = end
 written_place place end (p ∷ ps) = if p.start == place then p.from else written_place place end ps
+
+-- Where the strict form begins of what is written at this place of the text, and the end of the strict text for another place.
+abbrev pub strict_place : ℕ → ℕ → List Part → ℕ
+strict_place place end [] = end
+strict_place place end (p ∷ ps) = if p.from == place then p.start else strict_place place end ps
 
 -- ---- loose parts
 

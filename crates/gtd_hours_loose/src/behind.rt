@@ -1,8 +1,9 @@
 //! What stands behind the tokens that have been read, and what becomes of the next one there.
 
 ghost use Rattle.std.specs.Prelude.{◌≡◌};
-ghost use Rattle.gtd_hours_loose.specs.Behind.{after, after_kept, all_commas, all_semicolons, begins_hours, behind_dash};
-ghost use Rattle.gtd_hours_loose.specs.Behind.{behind_kind, behind_time, comma_fate, drop_if, fate_of, hours_follow};
+ghost use Rattle.gtd_hours_loose.specs.Behind.{after, after_kept, all_commas, all_semicolons, begins_hours};
+ghost use Rattle.gtd_hours_loose.specs.Behind.{begins_moment, behind_close, behind_dash, behind_kind, behind_open, behind_time};
+ghost use Rattle.gtd_hours_loose.specs.Behind.{behind_unread, comma_fate, drop_if, fate_of, hours_follow};
 ghost use Rattle.gtd_hours_loose.specs.Behind.{is_clock_here, is_comma, is_days, is_pair_dash, is_range, is_semicolon};
 ghost use Rattle.gtd_hours_loose.specs.Behind.{kind_here, may_end, semicolon_fate};
 
@@ -16,15 +17,19 @@ pub enum Behind {
     Front,
     /// A weekday, a holiday, or the bracket behind places of a weekday.
     Days,
-    /// A time.
+    /// A moment: a time, or an event of the sun, in a parenthesis or not.
     Time,
-    /// A time and a dash.
+    /// A moment and a dash.
     TimeDash,
+    /// The parenthesis of a moment, which is not closed yet.
+    Inside,
+    /// The same behind a moment and a dash.
+    EndInside,
     /// The first of two numbers that are times.
     PairTime,
     /// That number and a dash.
     PairDash,
-    /// Two times with a dash between.
+    /// Two moments with a dash between.
     Range,
     /// A comma.
     Comma,
@@ -145,17 +150,28 @@ fn all_semicolons(tokens: &[LooseToken]) -> bool
     true
 }
 
-// A moment, a modifier or a comment.
-fn begins_hours(kind: LooseKind) -> bool
-    ensures { result ≡ begins_hours kind }
+// The first token of a moment: a time, an event of the sun, or the parenthesis around one.
+fn begins_moment(kind: LooseKind) -> bool
+    ensures { result ≡ begins_moment kind }
 {
     match kind {
         LooseKind::Time { .. } => true,
         LooseKind::Event => true,
+        LooseKind::OpenParenthesis => true,
+        _ => false,
+    }
+}
+
+// The first token of a moment, a modifier or a comment.
+fn begins_hours(kind: LooseKind) -> bool
+    ensures { result ≡ begins_hours kind }
+{
+    match kind {
         LooseKind::Open => true,
         LooseKind::Closed => true,
         LooseKind::Comment => true,
-        _ => false,
+        LooseKind::Quoted => true,
+        _ => begins_moment(kind),
     }
 }
 
@@ -200,14 +216,13 @@ pub fn fate_of(behind: Behind, kind: LooseKind, later: &[LooseToken]) -> Fate
         LooseKind::Comma => comma_fate(behind, later),
         LooseKind::Semicolon => semicolon_fate(behind, later),
         LooseKind::Colon => drop_if(is_days(behind) && hours_follow(later)),
-        LooseKind::Time { .. } => {
-            if is_range(behind) {
+        _ => {
+            if is_range(behind) && begins_moment(kind) {
                 Fate::Joined
             } else {
                 Fate::Kept
             }
         }
-        _ => Fate::Kept,
     }
 }
 
@@ -217,6 +232,8 @@ fn behind_time(behind: Behind) -> Behind
     match behind {
         Behind::PairDash => Behind::Range,
         Behind::TimeDash => Behind::Range,
+        Behind::Inside => Behind::Inside,
+        Behind::EndInside => Behind::EndInside,
         _ => Behind::Time,
     }
 }
@@ -227,6 +244,38 @@ fn behind_dash(behind: Behind) -> Behind
     match behind {
         Behind::Time => Behind::TimeDash,
         Behind::PairTime => Behind::PairDash,
+        Behind::Inside => Behind::Inside,
+        Behind::EndInside => Behind::EndInside,
+        _ => Behind::Other,
+    }
+}
+
+// Behind the sign of what is added to an event, or another word or sign.
+fn behind_unread(behind: Behind) -> Behind
+    ensures { result ≡ behind_unread behind }
+{
+    match behind {
+        Behind::Inside => Behind::Inside,
+        Behind::EndInside => Behind::EndInside,
+        _ => Behind::Other,
+    }
+}
+
+fn behind_open(behind: Behind) -> Behind
+    ensures { result ≡ behind_open behind }
+{
+    match behind {
+        Behind::TimeDash => Behind::EndInside,
+        _ => Behind::Inside,
+    }
+}
+
+fn behind_close(behind: Behind) -> Behind
+    ensures { result ≡ behind_close behind }
+{
+    match behind {
+        Behind::Inside => Behind::Time,
+        Behind::EndInside => Behind::Range,
         _ => Behind::Other,
     }
 }
@@ -236,7 +285,11 @@ fn behind_kind(behind: Behind, kind: LooseKind) -> Behind
 {
     match kind {
         LooseKind::Time { .. } => behind_time(behind),
+        LooseKind::Event => behind_time(behind),
         LooseKind::Dash => behind_dash(behind),
+        LooseKind::Unread => behind_unread(behind),
+        LooseKind::OpenParenthesis => behind_open(behind),
+        LooseKind::CloseParenthesis => behind_close(behind),
         LooseKind::Comma => Behind::Comma,
         LooseKind::Semicolon => Behind::Semicolon,
         _ => {

@@ -1,7 +1,7 @@
 //! Where the parts of a strict form are written in the text, and whether they are written loosely.
 
 ghost use Rattle.std.specs.Prelude.{◌≡◌};
-ghost use Rattle.gtd_hours_loose.specs.Mending.{is_loose, written_place};
+ghost use Rattle.gtd_hours_loose.specs.Mending.{is_loose, strict_place, written_place};
 
 use crate::strict::{Part, stretch};
 
@@ -20,6 +20,20 @@ pub fn written_place(place: usize, end: usize, parts: &[Part]) -> usize
     while let Some((part, later)) = rest.split_first() {
         if part.start == place {
             return part.from;
+        }
+        rest = later;
+    }
+    end
+}
+
+/// Where the strict form begins of what is written at a place of the text; the end of the strict text for another place.
+pub fn strict_place(place: usize, end: usize, parts: &[Part]) -> usize
+    ensures { result ≡ strict_place place end parts.now }
+{
+    let mut rest = parts;
+    while let Some((part, later)) = rest.split_first() {
+        if part.from == place {
+            return part.start;
         }
         rest = later;
     }

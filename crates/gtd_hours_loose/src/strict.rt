@@ -1,11 +1,11 @@
 //! The strict form of a text: what is written for each of its tokens, and in place of what.
 
-ghost use Rattle.std.specs.Prelude.{◌≡◌, ◌+◌, ◌≤◌, ◌<◌, ◌++◌, ◌∷◌, [], List, OnOk, IfOk, length, map};
+ghost use Rattle.std.specs.Prelude.{◌≡◌, ◌+◌, ◌≤◌, ◌<◌, ◌++◌, ◌∷◌, [], List, OnOk, IfOk, drop, length, map};
 ghost use Rattle.std.specs.Char.{to_ascii_lowercase};
 ghost use Rattle.gtd_hours.specs.Written.{month_name, two_digits, weekday_name};
-ghost use Rattle.gtd_hours_loose.specs.Mending.{Holds, Mended, form_of, stretch};
+ghost use Rattle.gtd_hours_loose.specs.Mending.{Holds, Mended, form_of, plain_end, stretch};
 
-use gtd_hours_loose_tokens::LooseKind;
+use gtd_hours_loose_tokens::{LooseKind, end_length};
 use std::alloc::{AllocError, Global};
 
 /// A part of a text, and its strict form.
@@ -110,6 +110,40 @@ fn push_lower(out: &mut Vec<u8>, written: &[u8]) -> Result<(), AllocError>
     Ok(())
 }
 
+// Appends what stands behind the first quote of a comment of a text processor, with a plain quote at its end.
+fn push_plain_end(out: &mut Vec<u8>, bytes: &[u8]) -> Result<(), AllocError>
+    ensures { OnOk result (out.new.items ≡ out.old.items ++ plain_end bytes.now) }
+{
+    let mut rest = bytes;
+    while let Some((byte, later)) = rest.split_first() {
+        if end_length(*byte, later) > 0 {
+            out.push(b'"')?;
+            return Ok(());
+        }
+        out.push(*byte)?;
+        rest = later;
+    }
+    Ok(())
+}
+
+// What stands behind the three bytes of a quote.
+fn after_quote(written: &[u8]) -> &[u8]
+    ensures { result.now ≡ drop 3 written.now }
+{
+    match written {
+        [_, _, _, rest @ ..] => rest,
+        _ => b"",
+    }
+}
+
+// Appends a comment of a text processor in plain quotes.
+fn push_quoted(out: &mut Vec<u8>, written: &[u8]) -> Result<(), AllocError>
+    ensures { OnOk result (out.new.items ≡ out.old.items ++ (34 ∷ plain_end (drop 3 written.now))) }
+{
+    out.push(b'"')?;
+    push_plain_end(out, after_quote(written))
+}
+
 fn push_form(out: &mut Vec<u8>, kind: LooseKind, written: &[u8]) -> Result<(), AllocError>
     ensures { OnOk result (out.new.items ≡ out.old.items ++ form_of kind written.now) }
 {
@@ -121,6 +155,7 @@ fn push_form(out: &mut Vec<u8>, kind: LooseKind, written: &[u8]) -> Result<(), A
         LooseKind::SchoolHoliday => out.extend_from_slice(b"SH"),
         LooseKind::Dash => out.extend_from_slice(b"-"),
         LooseKind::Comment => out.extend_from_slice(written),
+        LooseKind::Quoted => push_quoted(out, written),
         _ => push_lower(out, written),
     }
 }

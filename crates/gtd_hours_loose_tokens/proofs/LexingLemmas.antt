@@ -8,7 +8,6 @@ use Rattle.gtd_hours_loose_tokens.specs.declared.token.DayNames.{DayNames}
 use Rattle.gtd_hours_loose_tokens.specs.declared.token.LooseKind.{LooseKind}
 use Rattle.gtd_hours_loose_tokens.specs.declared.token.LooseToken.{LooseToken}
 use Rattle.gtd_hours_loose_tokens.specs.declared.token.TokenFault.{TokenFault}
-use Rattle.gtd_hours_loose_tokens.specs.declared.token.TokenFault.TheVariants as fault
 use Rattle.gtd_hours_loose_tokens.specs.Lexing.{by_front, front, front_length, is_ambiguous, onto, placed, tokens_from, tokens_of}
 use Rattle.gtd_hours_loose_tokens.specs.Signs.{Front, space_length}
 use Rattle.gtd_hours_loose_tokens.specs.Stops.{IsFaultHere, IsFound}

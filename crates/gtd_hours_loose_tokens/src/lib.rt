@@ -13,6 +13,6 @@ mod token;
 mod words;
 
 pub use lexer::tokens_of;
-pub use signs::other_space;
+pub use signs::{end_length, other_space};
 pub use stop::LooseStop;
 pub use token::{DayNames, LooseKind, LooseToken, TokenFault};

@@ -1,8 +1,9 @@
 //! The signs of opening hours, and the spaces.
 
 ghost use Rattle.std.specs.Prelude.{◌≡◌, ◌+◌, ◌≤◌, IfSome, length};
-ghost use Rattle.gtd_hours_loose_tokens.specs.Signs.{bars_front, comment_length, dash_front, is_dash, last_of_three, other_space};
-ghost use Rattle.gtd_hours_loose_tokens.specs.Signs.{second_of_two, sign_front, sign_of, space_length};
+ghost use Rattle.gtd_hours_loose_tokens.specs.Signs.{bars_front, comment_length, end_length, is_dash, is_quote, last_of_three};
+ghost use Rattle.gtd_hours_loose_tokens.specs.Signs.{mark_front, other_space, quote_length, quoted_length, second_of_two};
+ghost use Rattle.gtd_hours_loose_tokens.specs.Signs.{sign_front, sign_of, space_length};
 
 use crate::runs::comment_bytes;
 use crate::token::LooseKind;
@@ -16,7 +17,7 @@ pub fn sign_front(byte: u8, rest: &[u8]) -> Option<(LooseKind, usize)>
     match byte {
         b'"' => Some((LooseKind::Comment, comment_length(rest))),
         b'|' => bars_front(rest),
-        226 => dash_front(rest),
+        226 => mark_front(rest),
         _ => match sign_of(byte) {
             Some(kind) => Some((kind, 1)),
             None => None,
@@ -57,15 +58,65 @@ fn is_dash(second: u8, third: u8) -> bool
     (second == 128 && (144 <= third && third <= 148)) || (second == 136 && third == 146)
 }
 
-fn dash_front(rest: &[u8]) -> Option<(LooseKind, usize)>
-    ensures front { result ≡ dash_front rest.now }
+// Whether these are the second and third byte of a quote of a text processor.
+fn is_quote(second: u8, third: u8) -> bool
+    ensures { result ≡ is_quote second third }
+{
+    second == 128 && (156 <= third && third <= 158)
+}
+
+fn quote_length(rest: &[u8]) -> usize
+    ensures count { result ≡ quote_length rest.now }
+    ensures within { result ≤ length rest.now + 1 }
+{
+    match rest {
+        [second, third, ..] => { if is_quote(*second, *third) { 3 } else { 0 } }
+        _ => 0,
+    }
+}
+
+/// How many bytes the sign has that ends a comment of a text processor, if one begins with this byte and goes on with these.
+pub fn end_length(byte: u8, rest: &[u8]) -> usize
+    ensures count { result ≡ end_length byte rest.now }
+    ensures within { result ≤ length rest.now + 1 }
+{
+    match byte {
+        b'"' => 1,
+        226 => quote_length(rest),
+        _ => 0,
+    }
+}
+
+// How long a comment of a text processor is behind its first quote.
+fn quoted_length(bytes: &[u8]) -> usize
+    ensures count { result ≡ quoted_length bytes.now }
+    ensures within { result ≤ length bytes.now }
+{
+    let mut rest = bytes;
+    let mut passed = 0;
+    while let Some((byte, later)) = rest.split_first() {
+        let end = end_length(*byte, later);
+        if end > 0 {
+            return passed + end;
+        }
+        passed += 1;
+        rest = later;
+    }
+    passed
+}
+
+// A dash or a comment of a text processor, behind its first byte.
+fn mark_front(rest: &[u8]) -> Option<(LooseKind, usize)>
+    ensures front { result ≡ mark_front rest.now }
     ensures some { IfSome result (λ x. 1 ≤ x.1) }
     ensures within { IfSome result (λ x. x.1 ≤ length rest.now + 1) }
 {
     match rest {
-        [second, third, ..] => {
+        [second, third, later @ ..] => {
             if is_dash(*second, *third) {
                 Some((LooseKind::Dash, 3))
+            } else if is_quote(*second, *third) {
+                Some((LooseKind::Quoted, quoted_length(later) + 3))
             } else {
                 None
             }
@@ -85,6 +136,8 @@ fn sign_of(byte: u8) -> Option<LooseKind>
         b':' => Some(LooseKind::Colon),
         b'[' => Some(LooseKind::OpenBracket),
         b']' => Some(LooseKind::CloseBracket),
+        b'(' => Some(LooseKind::OpenParenthesis),
+        b')' => Some(LooseKind::CloseParenthesis),
         b'+' => Some(LooseKind::Unread),
         _ => None,
     }

@@ -25,6 +25,8 @@ pub enum LooseKind {
     Unread,
     /// From `"` to the next `"` or the end of the text.
     Comment,
+    /// From one of the quotes U+201C to U+201E to the next of these or `"`, or the end of the text.
+    Quoted,
     /// One to four digits.
     Number {
         /// The number that the digits stand for.
@@ -53,6 +55,10 @@ pub enum LooseKind {
     OpenBracket,
     /// `]`
     CloseBracket,
+    /// `(`
+    OpenParenthesis,
+    /// `)`
+    CloseParenthesis,
     /// A name or a time that is refused, since people read it in two ways.
     Ambiguous,
 }

@@ -1,6 +1,6 @@
 -- The tokens of texts with times of all forms: those of plain hours, and parentheses.
-use Rattle.std.specs.Prelude.{ℕ, ◌≡◌, ◌≢◌, ◌+◌, ◌-◌, ◌<◌, ◌==◌, List, length, drop, take, slice_index, codes, option_map}
-use Rattle.std.specs.Prelude.{Option, Some, None, Result, Ok, Err, if◌then◌else◌}
+use Rattle.std.specs.Prelude.{ℕ, ◌≡◌, ◌≢◌, ◌+◌, ◌-◌, ◌<◌, ◌==◌, ◌||◌, Bool, false, List, [], ◌∷◌, length, drop, take, slice_index}
+use Rattle.std.specs.Prelude.{codes, option_map, Option, Some, None, Result, Ok, Err, if◌then◌else◌}
 use Rattle.gtd_scan.specs.Spaces.{AreSpaces}
 use Rattle.gtd_scan.specs.Tokens.{ReadsTokens}
 use Rattle.gtd_hours_tokens.specs.Lexing.{IsToken}
@@ -29,10 +29,21 @@ event_of word =
     else if is_word word (codes "dusk") then Some event.Dusk
     else None
 
--- A word or a sign that plain hours do not read is an event, or it is not read here either.
-abbrev pub unread : Option Event → TimeKind
-unread None = kind.Unread
-unread (Some e) = kind.Event e
+-- The bytes begin with a quote (34).
+abbrev pub begins_quoted : List ℕ → Bool
+begins_quoted [] = false
+begins_quoted (byte ∷ bytes) = byte == 34
+
+-- A holiday, `unknown`, `||` or a comment: these are read, but not in times.
+abbrev pub is_of_rules : List ℕ → Bool
+is_of_rules word =
+    is_word word (codes "PH")
+    || (is_word word (codes "SH") || (is_word word (codes "unknown") || (is_word word (codes "||") || begins_quoted word)))
+
+-- A word or a sign that plain hours do not read is an event, or one of rules, or it is not read here either.
+abbrev pub unread : Option Event → Bool → TimeKind
+unread None of_rules = if of_rules then kind.Other else kind.Unread
+unread (Some e) of_rules = kind.Event e
 
 abbrev pub kind_of : TokenKind → List ℕ → TimeKind
 kind_of (token_kind.Time h m) written = kind.Time h m
@@ -40,7 +51,7 @@ kind_of (token_kind.Number v digits) written = kind.Number v
 kind_of token_kind.Plus written = kind.Plus
 kind_of token_kind.Dash written = kind.Dash
 kind_of token_kind.Slash written = kind.Slash
-kind_of token_kind.Unsupported written = unread (event_of written)
+kind_of token_kind.Unsupported written = unread (event_of written) (is_of_rules written)
 kind_of k written = kind.Other
 
 abbrev pub time_token : List ℕ → Token → TimeToken

@@ -1,7 +1,8 @@
 //! What tokens are for the forms of times.
 
 ghost use Rattle.std.specs.Prelude.{◌≡◌, ◌<◌, length};
-ghost use Rattle.gtd_hours_moments.specs.Tokens.{event_of, kind_of, parenthesis, parenthesis_at, stretch, time_token, unread};
+ghost use Rattle.gtd_hours_moments.specs.Tokens.{begins_quoted, event_of, is_of_rules, kind_of, parenthesis, parenthesis_at};
+ghost use Rattle.gtd_hours_moments.specs.Tokens.{stretch, time_token, unread};
 
 use crate::moment::Event;
 use gtd_hours_tokens::{Token, TokenKind};
@@ -75,12 +76,38 @@ fn event_of(word: &[u8]) -> Option<Event>
     }
 }
 
-fn unread(event: Option<Event>) -> TimeKind
-    ensures { result ≡ unread event }
+fn begins_quoted(word: &[u8]) -> bool
+    ensures { result ≡ begins_quoted word.now }
+{
+    match word {
+        [byte, ..] => *byte == b'"',
+        [] => false,
+    }
+}
+
+// Whether it is a holiday, `unknown`, `||` or a comment.
+fn is_of_rules(word: &[u8]) -> bool
+    ensures { result ≡ is_of_rules word.now }
+{
+    word == b"PH".as_slice()
+        || word == b"SH".as_slice()
+        || word == b"unknown".as_slice()
+        || word == b"||".as_slice()
+        || begins_quoted(word)
+}
+
+fn unread(event: Option<Event>, of_rules: bool) -> TimeKind
+    ensures { result ≡ unread event of_rules }
 {
     match event {
-        None => TimeKind::Unread,
         Some(event) => TimeKind::Event(event),
+        None => {
+            if of_rules {
+                TimeKind::Other
+            } else {
+                TimeKind::Unread
+            }
+        }
     }
 }
 
@@ -93,7 +120,7 @@ fn kind_of(kind: TokenKind, written: &[u8]) -> TimeKind
         TokenKind::Plus => TimeKind::Plus,
         TokenKind::Dash => TimeKind::Dash,
         TokenKind::Slash => TimeKind::Slash,
-        TokenKind::Unsupported => unread(event_of(written)),
+        TokenKind::Unsupported => unread(event_of(written), is_of_rules(written)),
         _ => TimeKind::Other,
     }
 }

@@ -10,7 +10,8 @@ use Rattle.gtd_hours.specs.declared.hours.Kind.{Kind}
 use Rattle.gtd_hours.specs.declared.hours.Rule.{Rule}
 use Rattle.gtd_hours.specs.declared.hours.Selector.{Selector}
 use Rattle.gtd_hours.specs.declared.hours.Selector.TheVariants as selector
-use Rattle.gtd_hours.specs.Writable.{IsWritableRule, is_month_days, is_weekdays, is_weeks, is_years, kind_if, selectors}
+use Rattle.gtd_hours.specs.Writable.{IsWritableRule, is_fallback, is_month_days, is_weekdays, is_weeks, is_years, kind_if}
+use Rattle.gtd_hours.specs.Writable.{selectors}
 use Rattle.gtd_hours_search.specs.Order.{InOrder, have_place, kind_place, place_of}
 
 -- ---- the kinds of a place, and those behind it
@@ -142,13 +143,14 @@ left_nested k a b c d e h none =
     ∙ ap (λ (l : List (List Selector)). a ++ l) (sym (append_assoc b c d))
     ∙ sym (append_assoc a (b ++ c) d) ∙ ap (λ (l : List (List Selector)). l ++ d) (sym (append_assoc a b c))
 
-pub in_order : (rule : Rule) → InOrder 0 rule.kinds.items → IsWritableRule rule
-in_order rule h =
+pub in_order : (rule : Rule) → is_fallback rule.link ≡ false → InOrder 0 rule.kinds.items → IsWritableRule rule
+in_order rule no_fallback h =
     let a = peel 0 rule.kinds.items h in
     let b = peel 1 a.rest a.later in
     let c = peel 2 b.rest b.later in
     let d = peel 3 c.rest c.later in
     record {
+      no_fallback = no_fallback;
       years = a.xs;
       month_days = b.xs;
       weeks = c.xs;

@@ -1,7 +1,7 @@
 //! Whether hours can be written in the syntax of OpenStreetMap.
 
 ghost use Rattle.std.specs.Prelude.{◌≡◌, IsTrue};
-ghost use Rattle.gtd_hours.specs.Writable.{AreWritable, BeginAnew, IsWritable, IsWritableRule};
+ghost use Rattle.gtd_hours.specs.Writable.{AreWritable, BeginAnew, IsWritable, IsWritableRule, is_fallback};
 ghost use Rattle.gtd_hours_search.specs.Order.{InOrder, have_place, kind_place, place_of};
 
 use gtd_hours::{Hours, Kind, Link, Rule, Selector};
@@ -64,9 +64,21 @@ fn are_in_order(kinds: &[Kind]) -> bool
     true
 }
 
+fn is_fallback(link: Link) -> bool
+    ensures { result ≡ is_fallback link }
+{
+    match link {
+        Link::Instead | Link::Also => false,
+        Link::Fallback => true,
+    }
+}
+
 fn is_writable(rule: &Rule) -> bool
     ensures { IsTrue result → IsWritableRule rule.now }
 {
+    if is_fallback(rule.link) {
+        return false;
+    }
     are_in_order(rule.kinds.as_slice())
 }
 
@@ -90,7 +102,7 @@ fn begin_anew(rules: &[Rule]) -> bool
         None => false,
         Some(rule) => match rule.link {
             Link::Instead => true,
-            Link::Also => false,
+            Link::Also | Link::Fallback => false,
         },
     }
 }

@@ -5,13 +5,7 @@ use Rattle.std.proofs.Common.{ℕ, Option, Some, None, Result, Ok, Err}
 use Rattle.std.specs.Prelude.{IfOk}
 use Rattle.std.specs.declared.alloc.AllocError.{AllocError}
 use Rattle.gtd_hours.specs.declared.hours.Link.{Link}
-use Rattle.gtd_hours.specs.declared.hours.Dated.{Dated}
-use Rattle.gtd_hours.specs.declared.hours.Dates.{Dates}
-use Rattle.gtd_hours.specs.declared.hours.Months.{Months}
-use Rattle.gtd_hours.specs.declared.hours.Weekdays.{Weekdays}
 use Rattle.gtd_hours.specs.declared.hours.WeekdayPlace.{WeekdayPlace}
-use Rattle.gtd_hours.specs.declared.hours.Weeks.{Weeks}
-use Rattle.gtd_hours.specs.declared.hours.Years.{Years}
 use Rattle.gtd_hours.specs.declared.hours.Selector.{Selector}
 use Rattle.gtd_hours.specs.declared.hours.Selector.TheVariants as selector
 use Rattle.gtd_hours_parts.specs.Values.{AreDates, IsPartOf, IsSelector}

@@ -14,6 +14,7 @@ pub mod WrittenKinds
 pub mod WrittenChain
 pub mod WrittenRules
 pub mod WrittenHours
+pub mod NoFallback
 pub mod WritableLemmas
 pub mod EachPiece
 pub mod EachText

@@ -11,16 +11,19 @@ use Rattle.gtd_hours.specs.declared.hours.Rule.{Rule}
 use Rattle.gtd_hours.specs.declared.hours.Selector.{Selector}
 use Rattle.gtd_hours.specs.declared.hours.Selector.TheVariants as selector
 use Rattle.gtd_hours.specs.Writable.{AreWritable, BeginAnew, IsWritable, IsWritableRule}
-use Rattle.gtd_hours.specs.Writable.{is_month_days, is_weekdays, is_weeks, is_years}
+use Rattle.gtd_hours.specs.Writable.{is_fallback, is_month_days, is_weekdays, is_weeks, is_years}
 use Rattle.gtd_hours_parts.specs.declared.digits.Digits.{Digits}
 use Rattle.gtd_hours_parts.specs.declared.piece.LastDate.{LastDate}
 use Rattle.gtd_hours_parts.specs.declared.piece.Offset.{Offset}
 use Rattle.gtd_hours_parts.specs.declared.piece.Piece.{Piece}
 use Rattle.gtd_hours_parts.specs.declared.piece.Piece.TheVariants as piece
 use Rattle.gtd_hours_parts.specs.declared.piece.WrittenDate.{WrittenDate}
+use Rattle.gtd_hours_moves.specs.declared.stage.Stage.TheVariants as stage
+use Rattle.gtd_hours_grammar.specs.Faults.{kinds}
 use Rattle.gtd_hours_text.specs.Standing.{AllSelectors, AllWeekdays, AreDates, AreMoved, ArePlaces, AreRules, AreSelectors}
 use Rattle.gtd_hours_text.specs.Standing.{IsMoved, IsPlace, IsRule, StandsFor, offset_in}
 use Rattle.gtd_hours_text.specs.Standing.{names_month_days, names_weekdays, names_weeks, names_years}
+use Rattle.gtd_hours_text.proofs.NoFallback.{NoneFallsBack, none_behind, none_falls_back}
 use Rattle.gtd_hours_text.proofs.WrittenSelectors.{and_both}
 use Rattle.gtd_hours_text.proofs.WrittenTokens.{both_true}
 
@@ -130,8 +133,9 @@ filtered is (x ∷ xs) = filtered_by is (is x) x (filter is xs) refl (filtered i
 
 -- ---- rules
 
-writable_rule : (l : Link) (p : List Piece) (rule : Rule) → IsRule l p rule → IsWritableRule rule
-writable_rule l p rule r = record {
+writable_rule : (l : Link) (p : List Piece) (rule : Rule) → is_fallback l ≡ false → IsRule l p rule → IsWritableRule rule
+writable_rule l p rule kept r = record {
+  no_fallback = subst (λ (k : Link). is_fallback k ≡ false) (sym r.link) kept;
   years = r.years;
   month_days = r.month_days;
   weeks = r.weeks;
@@ -144,11 +148,13 @@ writable_rule l p rule r = record {
   kinds = r.kinds;
 }
 
-writable_rules : (l : Link) (p : List Piece) (rules : List Rule) → AreRules l p rules → AreWritable rules
-writable_rules l p rules (AreRules.last k q rule all one is e) =
-    subst AreWritable (sym e) (writable_rule k q rule is, record {})
-writable_rules l p rules (AreRules.another k next o q r rule others all e one is f more) =
-    subst AreWritable (sym f) (writable_rule k q rule is, writable_rules next r others more)
+writable_rules : (l : Link) (p : List Piece) (rules : List Rule) → is_fallback l ≡ false → NoneFallsBack p → AreRules l p rules
+    → AreWritable rules
+writable_rules l p rules kept none (AreRules.last k q rule all one is e) =
+    subst AreWritable (sym e) (writable_rule k q rule kept is, record {})
+writable_rules l p rules kept none (AreRules.another k next o q r rule others all e one is f more) =
+    let behind = none_behind q (piece.Rule next ∷ r) (subst NoneFallsBack e none) in
+    subst AreWritable (sym f) (writable_rule k q rule kept is, writable_rules next r others behind.0 behind.1 more)
 
 begin_anew : (p : List Piece) (rules : List Rule) → AreRules link.Instead p rules → BeginAnew rules
 begin_anew p rules (AreRules.last k q rule all one is e) = subst BeginAnew (sym e) is.link
@@ -157,5 +163,6 @@ begin_anew p rules (AreRules.another k next o q r rule others all e one is f mor
 pub can_be_written : (text : List ℕ) (hours : Hours) → StandsFor text hours → IsWritable hours
 can_be_written text hours s = record {
   first = begin_anew s.p hours.rules.items s.rules;
-  rules = writable_rules link.Instead s.p hours.rules.items s.rules;
+  rules = writable_rules link.Instead s.p hours.rules.items refl (none_falls_back stage.Front s.p (kinds s.is.tokens) s.is.hours)
+      s.rules;
 }

@@ -8,7 +8,7 @@ use Rattle.gtd_hours.specs.declared.hours.Link.TheVariants as link
 use Rattle.gtd_hours.specs.declared.hours.Modifier.{Modifier}
 use Rattle.gtd_hours.specs.declared.hours.Modifier.TheVariants as modifier
 use Rattle.gtd_hours.specs.declared.hours.Rule.{Rule}
-use Rattle.gtd_hours.specs.Writable.{AreWritable, BeginAnew, IsWritable}
+use Rattle.gtd_hours.specs.Writable.{AreWritable, BeginAnew, IsWritable, is_fallback}
 use Rattle.gtd_hours.specs.Written.{goes_into, hours_text, is_also, is_some_kind, is_some_time, link_text, more_rules_text}
 use Rattle.gtd_hours.specs.Written.{needs_word, rule_text, rules_text}
 use Rattle.gtd_hours_tokens.specs.declared.token.TokenKind.TheVariants as token
@@ -28,28 +28,33 @@ use Rattle.gtd_hours_text.proofs.WrittenRules.{EndsRule, OneRule, has_word, one_
 abbrev link_kind : Link → TokenKind
 link_kind link.Instead = token.Semicolon
 link_kind link.Also = token.Comma
+link_kind link.Fallback = token.Semicolon
 
-link_spelt : (l : Link) → Spelt Anything (link_text l) (link_kind l ∷ [])
-link_spelt link.Instead = joined Anything Anything (59 ∷ []) (32 ∷ []) (token.Semicolon ∷ []) []
+link_spelt : (l : Link) → is_fallback l ≡ false → Spelt Anything (link_text l) (link_kind l ∷ [])
+link_spelt link.Instead kept = joined Anything Anything (59 ∷ []) (32 ∷ []) (token.Semicolon ∷ []) []
     (sign_spelt 59 token.Semicolon refl) space_spelt (λ rest c. tt)
-link_spelt link.Also = joined Anything Anything (44 ∷ []) (32 ∷ []) (token.Comma ∷ []) []
+link_spelt link.Also kept = joined Anything Anything (44 ∷ []) (32 ∷ []) (token.Comma ∷ []) []
     (sign_spelt 44 token.Comma refl) space_spelt (λ rest c. tt)
+link_spelt link.Fallback kept = absurd cc
 
-link_apart : (l : Link) (a b : List ℕ) → Apart (link_text l ++ a ++ b)
-link_apart link.Instead a b = (refl, refl, refl)
-link_apart link.Also a b = (refl, refl, refl)
+link_apart : (l : Link) → is_fallback l ≡ false → (a b : List ℕ) → Apart (link_text l ++ a ++ b)
+link_apart link.Instead kept a b = (refl, refl, refl)
+link_apart link.Also kept a b = (refl, refl, refl)
+link_apart link.Fallback kept a b = absurd cc
 
 link_dateless : (l : Link) (rest : List TokenKind) → Dateless (link_kind l ∷ rest)
 link_dateless link.Instead rest = λ value count. refl
 link_dateless link.Also rest = λ value count. refl
+link_dateless link.Fallback rest = λ value count. refl
 
-link_follow : (l : Link) (s : Stage) (q : List Piece) (us : List TokenKind) → precedes stage.Front s ≡ true
-    → (is_also l ≡ true → list_goes_on s us ≡ false) → Follow in_full stage.Front q us
+link_follow : (l : Link) (s : Stage) (q : List Piece) (us : List TokenKind) → is_fallback l ≡ false
+    → precedes stage.Front s ≡ true → (is_also l ≡ true → list_goes_on s us ≡ false) → Follow in_full stage.Front q us
     → Follow in_full s (piece.Rule l ∷ q) (link_kind l ∷ us)
-link_follow link.Instead s q us p g f =
+link_follow link.Instead s q us kept p g f =
     Follow.instead s (piece.Rule link.Instead ∷ q) q (token.Semicolon ∷ us) us p refl refl f
-link_follow link.Also s q us p g f =
+link_follow link.Also s q us kept p g f =
     Follow.also s (piece.Rule link.Also ∷ q) q (token.Comma ∷ us) us p refl (g refl) refl f
+link_follow link.Fallback s q us kept p g f = absurd cc
 
 -- ---- a comma begins a rule
 
@@ -108,15 +113,17 @@ rule_follow : (rule : Rule) (rules : List Rule) (n : OneRule rule (needs_word ru
     → Follow in_full stage.Front (n.q ++ m.p) (n.us ++ m.ts)
 rule_follow rule rules n m = n.follow m.p m.ts m.dateless (λ s p e. m.follow rule s p e)
 
-with_rule : (next : Rule) (rules : List Rule) → OneRule next (needs_word next rules) → MoreRules rules → MoreRules (next ∷ rules)
-with_rule next rules n m = record {
+with_rule : (next : Rule) (rules : List Rule) → is_fallback next.link ≡ false → OneRule next (needs_word next rules)
+    → MoreRules rules → MoreRules (next ∷ rules)
+with_rule next rules kept n m = record {
   p = piece.Rule next.link ∷ (n.q ++ m.p);
   ts = link_kind next.link ∷ (n.us ++ m.ts);
-  spelt = (loose (link_text next.link) (rule_text next rules) (link_kind next.link ∷ []) n.us (link_spelt next.link) n.spelt).go
+  spelt = (loose (link_text next.link) (rule_text next rules) (link_kind next.link ∷ []) n.us (link_spelt next.link kept)
+      n.spelt).go
       (more_rules_text rules) m.ts m.apart m.spelt;
-  apart = link_apart next.link (rule_text next rules) (more_rules_text rules);
+  apart = link_apart next.link kept (rule_text next rules) (more_rules_text rules);
   dateless = link_dateless next.link (n.us ++ m.ts);
-  follow = λ rule s p e. link_follow next.link s (n.q ++ m.p) (n.us ++ m.ts) p (λ also.
+  follow = λ rule s p e. link_follow next.link s (n.q ++ m.p) (n.us ++ m.ts) kept p (λ also.
       no_going_on (has_word rule.modifier (is_also next.link && goes_into rule next)) (is_some_kind rule.kinds.items)
       (is_some_time rule.times.items) (is_some_time next.times.items && not (is_some_kind next.kinds.items)) s (n.us ++ m.ts) e
       (λ none. not_needed rule.modifier (is_also next.link) (goes_into rule next) none also)
@@ -129,7 +136,7 @@ with_rule next rules n m = record {
 more_rules : (rules : List Rule) → AreWritable rules → MoreRules rules
 more_rules [] w = no_rules
 more_rules (next ∷ rules) w =
-    with_rule next rules (one_rule next (needs_word next rules) w.0) (more_rules rules w.1)
+    with_rule next rules w.0.no_fallback (one_rule next (needs_word next rules) w.0) (more_rules rules w.1)
 
 -- ---- hours
 

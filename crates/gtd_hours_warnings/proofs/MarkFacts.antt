@@ -29,12 +29,12 @@ comment_whole bytes inner quote n e count many =
     rw e (ap (λ (l : List ℕ). quote ∷ l) (sym (take_all (prefix_len is_unquoted inner + 1) inner (omega (arith, count, many)))))
 
 -- one warning more, and those that the other places add
-pub remarks_left : (text : List ℕ) (all more : List ℕ) (place : ℕ) (w : Warning) (before after found : List Warning)
-    → all ≡ place ∷ more → IsRemarkWarning text place w → after ≡ put_in w before → AddsRemarks text more after found
-    → AddsRemarks text all before found
-remarks_left text all more place w before after found e is put adds =
-    subst (λ (l : List ℕ). AddsRemarks text l before found) (sym e)
-    (w, is, subst (λ (l : List Warning). AddsRemarks text more l found) put adds)
+pub remarks_left : (text : List ℕ) (form : Option StrictForm) (all more : List ℕ) (place : ℕ) (w : Warning)
+    (before after found : List Warning) → all ≡ place ∷ more → IsRemarkWarning text form place w → after ≡ put_in w before
+    → AddsRemarks text form more after found → AddsRemarks text form all before found
+remarks_left text form all more place w before after found e is put adds =
+    subst (λ (l : List ℕ). AddsRemarks text form l before found) (sym e)
+    (w, is, subst (λ (l : List Warning). AddsRemarks text form more l found) put adds)
 
 pub not_known_left : (all more : List ℕ) (place : ℕ) (w : Warning) (before after found : List Warning)
     → all ≡ place ∷ more → IsNotKnownWarning place w → after ≡ put_in w before → AddsNotKnown more after found
@@ -58,7 +58,7 @@ module _ (text : List ℕ) (read : KnownHours) (plain : LooseHours) (years : Opt
   pub as_plain : AreWarningsWith text read years found → AreWarnings text plain found
   as_plain w =
       let one : w.remarked ≡ w.loose =
-      subst (λ (l : List ℕ). AddsRemarks text l w.loose w.remarked) remarks w.remarks in
+      subst (λ (l : List ℕ). AddsRemarks text read.form l w.loose w.remarked) remarks w.remarks in
       let two : w.marked ≡ w.remarked =
       subst (λ (l : List ℕ). AddsNotKnown l w.remarked w.marked) unknowns w.unknowns in
       let put : AddsAllHides text read.hours read.form w.marked found =
@@ -79,7 +79,7 @@ module _ (text : List ℕ) (read : KnownHours) (plain : LooseHours) (years : Opt
         remarked = loose;
         marked = loose;
         are_loose = subst (λ (o : Option StrictForm). AddsLooseForm text o loose) form w.are_loose;
-        remarks = subst (λ (l : List ℕ). AddsRemarks text l loose loose) (sym remarks) (λ i. loose);
+        remarks = subst (λ (l : List ℕ). AddsRemarks text read.form l loose loose) (sym remarks) (λ i. loose);
         unknowns = subst (λ (l : List ℕ). AddsNotKnown l loose loose) (sym unknowns) (λ i. loose);
         put = subst (λ (o : Option ℕ). AddsLast text read o years loose found) (sym first)
             (subst (λ (h : Hours). AddsAllHides text h read.form loose found) hours

@@ -1,8 +1,11 @@
 -- The warnings of a text that may have holidays, comments and fallback rules that are unknown.
-use Rattle.std.specs.Prelude.{◌≡◌, ◌+◌, ◌++◌, ◌==◌, not, ℕ, Bool, List, [], ◌∷◌, codes, decimal, drop, take, Option, Some, None}
+use Rattle.std.specs.Prelude.{◌≡◌, ◌+◌, ◌++◌, ◌==◌, not, ℕ, Bool, List, [], ◌∷◌, codes, decimal, drop, length, take}
+use Rattle.std.specs.Prelude.{Option, Some, None}
 use Rattle.std.specs.List.{prefix_len}
 use Rattle.gtd_hours_holidays.specs.declared.known_years.KnownYears.{KnownYears}
 use Rattle.gtd_hours_known.specs.declared.known.KnownHours.{KnownHours}
+use Rattle.gtd_hours_loose.specs.Mending.{strict_place}
+use Rattle.gtd_hours_loose.specs.declared.strict.StrictForm.{StrictForm}
 use Rattle.gtd_hours_warnings.specs.Warnings.{AddsAllHides, AddsLooseForm, put_in}
 use Rattle.gtd_hours_warnings.specs.declared.warnings.Warning.{Warning}
 use Rattle.gtd_hours_warnings.specs.declared.warnings.WarningKind.TheVariants as kind
@@ -18,21 +21,27 @@ abbrev pub comment_of : List ℕ → List ℕ
 comment_of [] = []
 comment_of (quote ∷ bytes) = quote ∷ take (prefix_len is_unquoted bytes + 1) bytes
 
--- The comment whose first quote is here, as it is written.
+-- The comment whose first quote is here.
 abbrev pub comment_at : List ℕ → ℕ → List ℕ
 comment_at text place = comment_of (drop place text)
 
+-- The comment that is written here in a text, which may have a strict form of its own, as it is strictly written.
+abbrev pub remark_at : List ℕ → Option StrictForm → ℕ → List ℕ
+remark_at text None place = comment_at text place
+remark_at text (Some form) place =
+    comment_at form.text.items (strict_place place (length form.text.items) form.parts.items)
+
 -- The warning of a comment on an open rule: it lacks the word that says that the rule is open.
-pub record IsRemarkWarning (text : List ℕ) (place : ℕ) (w : Warning) : Type 0 where
+pub record IsRemarkWarning (text : List ℕ) (strict : Option StrictForm) (place : ℕ) (w : Warning) : Type 0 where
   pub kind : w.kind ≡ kind.Remark
   pub at : w.place ≡ place
-  pub form : w.form.items ≡ codes "open " ++ comment_at text place
+  pub form : w.form.items ≡ codes "open " ++ remark_at text strict place
 
 -- Those of the comments at these places are put to the warnings before.
-abbrev pub AddsRemarks : List ℕ → List ℕ → List Warning → List Warning → Type 0
-AddsRemarks text [] before after = after ≡ before
-AddsRemarks text (place ∷ places) before after =
-    (w : Warning) × IsRemarkWarning text place w × AddsRemarks text places (put_in w before) after
+abbrev pub AddsRemarks : List ℕ → Option StrictForm → List ℕ → List Warning → List Warning → Type 0
+AddsRemarks text form [] before after = after ≡ before
+AddsRemarks text form (place ∷ places) before after =
+    (w : Warning) × IsRemarkWarning text form place w × AddsRemarks text form places (put_in w before) after
 
 -- ---- rules that are not known
 
@@ -81,6 +90,6 @@ pub record AreWarningsWith (text : List ℕ) (read : KnownHours) (years : Option
   pub remarked : List Warning
   pub marked : List Warning
   pub are_loose : AddsLooseForm text read.form loose
-  pub remarks : AddsRemarks text read.remarks.items loose remarked
+  pub remarks : AddsRemarks text read.form read.remarks.items loose remarked
   pub unknowns : AddsNotKnown read.unknowns.items remarked marked
   pub put : AddsLast text read read.first_holiday years marked found

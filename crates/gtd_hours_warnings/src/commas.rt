@@ -14,7 +14,7 @@ fn is_instead(link: Link) -> bool
 {
     match link {
         Link::Instead => true,
-        Link::Also => false,
+        Link::Also | Link::Fallback => false,
     }
 }
 

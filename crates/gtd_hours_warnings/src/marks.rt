@@ -4,11 +4,12 @@ ghost use Rattle.std.specs.Prelude.{◌≡◌, ◌≤◌, IfOk, OnOk, drop, leng
 ghost use Rattle.std.specs.List.{prefix_len};
 ghost use Rattle.gtd_hours_warnings.specs.Marks.{AddsLast, AddsNotKnown, AddsRemarks, AddsYears, AreWarningsWith};
 ghost use Rattle.gtd_hours_warnings.specs.Marks.{IsKnownYearsWarning, IsNotKnownWarning, IsRemarkWarning, comment_at};
-ghost use Rattle.gtd_hours_warnings.specs.Marks.{is_unquoted};
+ghost use Rattle.gtd_hours_warnings.specs.Marks.{is_unquoted, remark_at};
 
 use crate::warnings::{Warning, WarningKind, add_hides, form_warnings, put_in};
 use gtd_hours_holidays::KnownYears;
 use gtd_hours_known::KnownHours;
+use gtd_hours_loose::{StrictForm, strict_place};
 use itoa::Buffer;
 use std::alloc::{AllocError, Global};
 
@@ -58,13 +59,33 @@ fn comment_at(text: &[u8], place: usize) -> &[u8]
     }
 }
 
-// The warning of a comment on an open rule.
-fn remark_warning(alloc: Global, text: &[u8], place: usize) -> Result<Warning, AllocError>
-    ensures { IfOk result (IsRemarkWarning text.now place) }
+// The comment that is written at a place of the text, as it is strictly written.
+fn remark_at<'a>(text: &'a [u8], form: &'a Option<StrictForm>, place: usize) -> &'a [u8]
+    ensures { result.now ≡ remark_at text.now form.now place }
 {
+    match form {
+        None => comment_at(text, place),
+        Some(form) => {
+            let strict = form.text.as_slice();
+            let parts = form.parts.as_slice();
+            comment_at(strict, strict_place(place, strict.len(), parts))
+        }
+    }
+}
+
+// The warning of a comment on an open rule.
+fn remark_warning(
+    alloc: Global,
+    text: &[u8],
+    form: &Option<StrictForm>,
+    place: usize,
+) -> Result<Warning, AllocError>
+    ensures { IfOk result (IsRemarkWarning text.now form.now place) }
+{
+    let comment = remark_at(text, form, place);
     let mut form = Vec::new(alloc);
     form.extend_from_slice(b"open ")?;
-    form.extend_from_slice(comment_at(text, place))?;
+    form.extend_from_slice(comment)?;
     Ok(Warning {
         kind: WarningKind::Remark,
         place,
@@ -77,13 +98,14 @@ fn add_remarks(
     alloc: Global,
     warnings: &mut Vec<Warning>,
     text: &[u8],
+    form: &Option<StrictForm>,
     places: &[usize],
 ) -> Result<(), AllocError>
-    ensures { OnOk result (AddsRemarks text.now places.now warnings.old.items warnings.new.items) }
+    ensures { OnOk result (AddsRemarks text.now form.now places.now warnings.old.items warnings.new.items) }
 {
     let mut rest = places;
     while let Some((place, later)) = rest.split_first() {
-        let warning = remark_warning(alloc, text, *place)?;
+        let warning = remark_warning(alloc, text, form, *place)?;
         put_in(warnings, warning)?;
         rest = later;
     }
@@ -185,7 +207,8 @@ pub fn warnings_with(
     ensures { IfOk result (λ found. AreWarningsWith text.now read.now years found.items) }
 {
     let mut warnings = form_warnings(alloc, text, &read.form)?;
-    add_remarks(alloc, &mut warnings, text, read.remarks.as_slice())?;
+    let remarks = read.remarks.as_slice();
+    add_remarks(alloc, &mut warnings, text, &read.form, remarks)?;
     add_not_known(alloc, &mut warnings, read.unknowns.as_slice())?;
     add_last(alloc, &mut warnings, text, read, years)?;
     Ok(warnings)

@@ -1,8 +1,10 @@
 -- The same rules mean the same: they are open at the same seconds, cost as many basic domains and are written the same.
 use Rattle.std.proofs.Common.{◌≡◌, ◌↔◌, ℕ, ◌+◌, ◌==◌, ℤ, List, [], ◌∷◌, ◌++◌, refl, sym, ap, subst, ◌∙◌, inl, inr}
-use Rattle.std.specs.Prelude.{◌&&◌, codes, if◌then◌else◌, max, not}
-use Rattle.gtd_hours.specs.Cost.{cost_after, cost_by, days_cost, hours_cost, kinds_cost, rule_cost, selectors_cost, spans_cost}
-use Rattle.gtd_hours.specs.Opening.{EachHolds, InSpans, IsOnMatch, IsOpen, IsOpenAfter, IsOpenBy, IsTimeOn, Matches, SomeHolds}
+use Rattle.std.specs.Prelude.{◌&&◌, ◌||◌, codes, if◌then◌else◌, max, not}
+use Rattle.gtd_hours.specs.Cost.{closed_cost_by, cost_after, days_cost, ends_late, falls_back, hours_cost, kinds_cost}
+use Rattle.gtd_hours.specs.Cost.{open_cost_by, rule_cost, selectors_cost, some_falls_back, spans_cost, unsaid_cost}
+use Rattle.gtd_hours.specs.Opening.{EachHolds, InSpans, IsClosedBy, IsOnMatch, IsOpen, IsOpenAfter, IsOpenBy, IsTimeOn}
+use Rattle.gtd_hours.specs.Opening.{Matches, SomeHolds}
 use Rattle.gtd_hours.specs.Written.{hours_text, is_some_kind, kind_text, kinds_text, link_text, modifier_text, more_rules_text}
 use Rattle.gtd_hours.specs.Written.{goes_into, is_also, is_some_time, needs_word, rule_text, rules_text, spans_text, times_text}
 use Rattle.gtd_hours.specs.declared.hours.Hours.{Hours}
@@ -59,34 +61,93 @@ in_spans one other s same h = (
 is_on_match : (one other : Rule) (s : ℤ) → SameRule one other → IsOnMatch one.kinds.items s → IsOnMatch other.kinds.items s
 is_on_match one other s same h = (h.0, h.1, matches one.kinds.items other.kinds.items h.0 same.kinds h.2)
 
-open_by : (m : Modifier) (l : Link) (one other : Rule) (A B : Type 0) (s : ℤ) → SameRule one other → (A → B)
-    → IsOpenBy m l one A s → IsOpenBy m l other B s
-open_by modifier.Closed l one other A B s same go h =
-    (go h.0, λ spans. h.1 (in_spans other one s (same_back one other same) spans))
-open_by modifier.Open link.Also one other A B s same go h =
-    elim h [ inl before ↦ inl (go before) | inr spans ↦ inr (in_spans one other s same spans) ]
-open_by modifier.Open link.Instead one other A B s same go h = elim h [
-  | inl before ↦ inl (go before.0, λ on. before.1 (is_on_match other one s (same_back one other same) on))
+-- what is open after a rule
+open_by : (m : Modifier) (l : Link) (one other : Rule) (A B C D : Type 0) (s : ℤ) → SameRule one other → (A ↔ B) → (C ↔ D)
+    → IsOpenBy m l one A C s → IsOpenBy m l other B D s
+open_by modifier.Open link.Instead one other A B C D s same go shut h = elim h [
+  | inl before ↦ inl (go.0 before.0, λ on. before.1 (is_on_match other one s (same_back one other same) on))
   | inr spans ↦ inr (in_spans one other s same spans)
 ]
+open_by modifier.Open link.Also one other A B C D s same go shut h =
+    elim h [ inl before ↦ inl (go.0 before) | inr spans ↦ inr (in_spans one other s same spans) ]
+open_by modifier.Open link.Fallback one other A B C D s same go shut h = elim h [
+  | inl before ↦ inl (go.0 before)
+  | inr spans ↦ inr (in_spans one other s same spans.0, λ was. spans.1 (shut.1 was))
+]
+open_by modifier.Closed link.Instead one other A B C D s same go shut h =
+    (go.0 h.0, λ spans. h.1 (in_spans other one s (same_back one other same) spans))
+open_by modifier.Closed link.Also one other A B C D s same go shut h =
+    (go.0 h.0, λ spans. h.1 (in_spans other one s (same_back one other same) spans))
+open_by modifier.Closed link.Fallback one other A B C D s same go shut h = go.0 h
 
-open_after : (xs ys : List Rule) (A B : Type 0) (s : ℤ) → SameRules xs ys → (A → B) → IsOpenAfter xs A s → IsOpenAfter ys B s
-open_after [] [] A B s same go h = go h
-open_after [] (y ∷ ys) A B s same go h = absurd same
-open_after (x ∷ xs) [] A B s same go h = absurd same
-open_after (x ∷ xs) (y ∷ ys) A B s same go h =
-    open_after xs ys (IsOpenBy x.modifier x.link x A s) (IsOpenBy y.modifier y.link y B s) s same.1
-    (λ by. subst (λ (m : Modifier). IsOpenBy m y.link y B s) same.0.modifier
-    (subst (λ (l : Link). IsOpenBy x.modifier l y B s) same.0.link
-    (open_by x.modifier x.link x y A B s same.0 go by))) h
+-- and what is said to be closed
+closed_by : (m : Modifier) (l : Link) (one other : Rule) (A B C D : Type 0) (s : ℤ) → SameRule one other → (A ↔ B) → (C ↔ D)
+    → IsClosedBy m l one A C s → IsClosedBy m l other B D s
+closed_by modifier.Open link.Instead one other A B C D s same go shut h = (
+  shut.0 h.0,
+  λ on. h.1 (is_on_match other one s (same_back one other same) on),
+  λ spans. h.2 (in_spans other one s (same_back one other same) spans),
+)
+closed_by modifier.Open link.Also one other A B C D s same go shut h =
+    (shut.0 h.0, λ spans. h.1 (in_spans other one s (same_back one other same) spans))
+closed_by modifier.Open link.Fallback one other A B C D s same go shut h = shut.0 h
+closed_by modifier.Closed link.Instead one other A B C D s same go shut h =
+    elim h [ inl before ↦ inl (shut.0 before) | inr spans ↦ inr (in_spans one other s same spans) ]
+closed_by modifier.Closed link.Also one other A B C D s same go shut h =
+    elim h [ inl before ↦ inl (shut.0 before) | inr spans ↦ inr (in_spans one other s same spans) ]
+closed_by modifier.Closed link.Fallback one other A B C D s same go shut h = elim h [
+  | inl before ↦ inl (shut.0 before)
+  | inr spans ↦ inr (in_spans one other s same spans.0, λ was. spans.1 (go.1 was))
+]
 
-opens : (text : List ℕ) (one other : Hours) → StandsFor text one → StandsFor text other → (s : ℤ) → IsOpen one s → IsOpen other s
-opens text one other h k s is =
-    open_after one.rules.items other.rules.items ⊥ ⊥ s (same_rules text one other h k) (λ no. no) is
+open_by_rule : (x y : Rule) (A B C D : Type 0) (s : ℤ) → SameRule x y → (A ↔ B) → (C ↔ D)
+    → IsOpenBy x.modifier x.link x A C s → IsOpenBy y.modifier y.link y B D s
+open_by_rule x y A B C D s same go shut h =
+    subst (λ (m : Modifier). IsOpenBy m y.link y B D s) same.modifier
+    (subst (λ (l : Link). IsOpenBy x.modifier l y B D s) same.link
+    (open_by x.modifier x.link x y A B C D s same go shut h))
+
+closed_by_rule : (x y : Rule) (A B C D : Type 0) (s : ℤ) → SameRule x y → (A ↔ B) → (C ↔ D)
+    → IsClosedBy x.modifier x.link x A C s → IsClosedBy y.modifier y.link y B D s
+closed_by_rule x y A B C D s same go shut h =
+    subst (λ (m : Modifier). IsClosedBy m y.link y B D s) same.modifier
+    (subst (λ (l : Link). IsClosedBy x.modifier l y B D s) same.link
+    (closed_by x.modifier x.link x y A B C D s same go shut h))
+
+back : (A B : Type 0) → (A ↔ B) → B ↔ A
+back A B go = (go.1, go.0)
+
+open_after : (xs ys : List Rule) (A B C D : Type 0) (s : ℤ) → SameRules xs ys → (A ↔ B) → (C ↔ D)
+    → IsOpenAfter xs A C s → IsOpenAfter ys B D s
+open_after [] [] A B C D s same go shut h = go.0 h
+open_after [] (y ∷ ys) A B C D s same go shut h = absurd same
+open_after (x ∷ xs) [] A B C D s same go shut h = absurd same
+open_after (x ∷ xs) (y ∷ ys) A B C D s same go shut h =
+    let turned = same_back x y same.0 in
+    open_after xs ys (IsOpenBy x.modifier x.link x A C s) (IsOpenBy y.modifier y.link y B D s)
+    (IsClosedBy x.modifier x.link x A C s) (IsClosedBy y.modifier y.link y B D s) s same.1
+    (open_by_rule x y A B C D s same.0 go shut, open_by_rule y x B A D C s turned (back A B go) (back C D shut))
+    (closed_by_rule x y A B C D s same.0 go shut, closed_by_rule y x B A D C s turned (back A B go) (back C D shut)) h
+
+same_all_back : (xs ys : List Rule) → SameRules xs ys → SameRules ys xs
+same_all_back [] [] same = same
+same_all_back [] (y ∷ ys) same = absurd same
+same_all_back (x ∷ xs) [] same = absurd same
+same_all_back (x ∷ xs) (y ∷ ys) same = (same_back x y same.0, same_all_back xs ys same.1)
+
+opens : (one other : Hours) → SameRules one.rules.items other.rules.items → (s : ℤ) → IsOpen one s → IsOpen other s
+opens one other same s =
+    open_after one.rules.items other.rules.items ⊥ ⊥ ⊥ ⊥ s same (λ no. no, λ no. no) (λ no. no, λ no. no)
+
+-- hours of the same rules are open at the same seconds
+pub same_opening : (one other : Hours) → SameRules one.rules.items other.rules.items
+    → (s : ℤ) → IsOpen one s ↔ IsOpen other s
+same_opening one other same s =
+    (opens one other same s, opens other one (same_all_back one.rules.items other.rules.items same) s)
 
 pub one_opening : (text : List ℕ) (one other : Hours) → StandsFor text one → StandsFor text other
     → (s : ℤ) → IsOpen one s ↔ IsOpen other s
-one_opening text one other h k s = (opens text one other h k s, opens text other one k h s)
+one_opening text one other h k = same_opening one other (same_rules text one other h k)
 
 -- ---- what they cost
 
@@ -106,28 +167,67 @@ days_cost_same one other same = ap (max 1) (kinds_cost_same one.kinds.items othe
 rule_cost_same : (one other : Rule) → SameRule one other → rule_cost one ≡ rule_cost other
 rule_cost_same one other same = λ i. spans_cost (days_cost_same one other same i) (same.times i)
 
-cost_by_same : (m : Modifier) (l : Link) (one other : Rule) (n : ℕ) → SameRule one other
-    → cost_by m l one n ≡ cost_by m l other n
-cost_by_same modifier.Closed l one other n same =
-    let all = rule_cost_same one other same in λ i. if n == 0 then 0 else n + all i
-cost_by_same modifier.Open link.Also one other n same = ap (λ (k : ℕ). n + k) (rule_cost_same one other same)
-cost_by_same modifier.Open link.Instead one other n same =
+unsaid_cost_same : (one other : Rule) → SameRule one other → unsaid_cost one ≡ unsaid_cost other
+unsaid_cost_same one other same =
+    let days = days_cost_same one other same in
+    let all = rule_cost_same one other same in
+    λ i. days i + (if ends_late (same.times i) then all i else 0)
+
+open_cost_by_same : (m : Modifier) (l : Link) (one other : Rule) (n c : ℕ) → SameRule one other
+    → open_cost_by m l one n c ≡ open_cost_by m l other n c
+open_cost_by_same modifier.Open link.Instead one other n c same =
     let days = days_cost_same one other same in
     let all = rule_cost_same one other same in
     λ i. if n == 0 then all i else n + days i + all i
+open_cost_by_same modifier.Open link.Also one other n c same = ap (λ (k : ℕ). n + k) (rule_cost_same one other same)
+open_cost_by_same modifier.Open link.Fallback one other n c same = ap (λ (k : ℕ). n + k + c) (rule_cost_same one other same)
+open_cost_by_same modifier.Closed link.Instead one other n c same =
+    ap (λ (k : ℕ). if n == 0 then 0 else n + k) (rule_cost_same one other same)
+open_cost_by_same modifier.Closed link.Also one other n c same =
+    ap (λ (k : ℕ). if n == 0 then 0 else n + k) (rule_cost_same one other same)
+open_cost_by_same modifier.Closed link.Fallback one other n c same = refl
 
-cost_after_same : (xs ys : List Rule) (n : ℕ) → SameRules xs ys → cost_after xs n ≡ cost_after ys n
-cost_after_same [] [] n same = refl
-cost_after_same [] (y ∷ ys) n same = absurd same
-cost_after_same (x ∷ xs) [] n same = absurd same
-cost_after_same (x ∷ xs) (y ∷ ys) n same =
-    cost_after_same xs ys (cost_by x.modifier x.link x n) same.1
-    ∙ ap (cost_after ys) (cost_by_same x.modifier x.link x y n same.0 ∙ (λ i. cost_by (same.0.modifier i) (same.0.link i) y n))
+closed_cost_by_same : (m : Modifier) (l : Link) (one other : Rule) (n c : ℕ) → SameRule one other
+    → closed_cost_by m l one n c ≡ closed_cost_by m l other n c
+closed_cost_by_same modifier.Open link.Instead one other n c same =
+    ap (λ (k : ℕ). if c == 0 then 0 else c + k) (unsaid_cost_same one other same)
+closed_cost_by_same modifier.Open link.Also one other n c same =
+    ap (λ (k : ℕ). if c == 0 then 0 else c + k) (rule_cost_same one other same)
+closed_cost_by_same modifier.Open link.Fallback one other n c same = refl
+closed_cost_by_same modifier.Closed link.Instead one other n c same = ap (λ (k : ℕ). c + k) (rule_cost_same one other same)
+closed_cost_by_same modifier.Closed link.Also one other n c same = ap (λ (k : ℕ). c + k) (rule_cost_same one other same)
+closed_cost_by_same modifier.Closed link.Fallback one other n c same =
+    ap (λ (k : ℕ). c + k + n) (rule_cost_same one other same)
+
+some_falls_back_same : (xs ys : List Rule) → SameRules xs ys → some_falls_back xs ≡ some_falls_back ys
+some_falls_back_same [] [] same = refl
+some_falls_back_same [] (y ∷ ys) same = absurd same
+some_falls_back_same (x ∷ xs) [] same = absurd same
+some_falls_back_same (x ∷ xs) (y ∷ ys) same =
+    let rest = some_falls_back_same xs ys same.1 in
+    λ i. falls_back (same.0.modifier i) (same.0.link i) || rest i
+
+cost_after_same : (xs ys : List Rule) (n c : ℕ) → SameRules xs ys → cost_after xs n c ≡ cost_after ys n c
+cost_after_same [] [] n c same = refl
+cost_after_same [] (y ∷ ys) n c same = absurd same
+cost_after_same (x ∷ xs) [] n c same = absurd same
+cost_after_same (x ∷ xs) (y ∷ ys) n c same =
+    let opens = open_cost_by_same x.modifier x.link x y n c same.0
+    ∙ (λ i. open_cost_by (same.0.modifier i) (same.0.link i) y n c) in
+    let shuts = closed_cost_by_same x.modifier x.link x y n c same.0
+    ∙ (λ i. closed_cost_by (same.0.modifier i) (same.0.link i) y n c) in
+    let falls = some_falls_back_same xs ys same.1 in
+    cost_after_same xs ys (open_cost_by x.modifier x.link x n c)
+    (if some_falls_back xs then closed_cost_by x.modifier x.link x n c else 0) same.1
+    ∙ (λ i. cost_after ys (opens i) (if falls i then shuts i else 0))
+
+-- and take as many basic domains
+pub same_cost : (one other : Hours) → SameRules one.rules.items other.rules.items → hours_cost one ≡ hours_cost other
+same_cost one other same = ap (max 1) (cost_after_same one.rules.items other.rules.items 0 0 same)
 
 pub one_cost : (text : List ℕ) (one other : Hours) → StandsFor text one → StandsFor text other
     → hours_cost one ≡ hours_cost other
-one_cost text one other h k =
-    ap (max 1) (cost_after_same one.rules.items other.rules.items 0 (same_rules text one other h k))
+one_cost text one other h k = same_cost one other (same_rules text one other h k)
 
 -- ---- how they are written
 

@@ -1,4 +1,4 @@
--- Without a table rules have no days of holidays, and all else is computed from the text.
+-- A table has one list of days for holidays, and all else is computed from the text.
 use Rattle.gtd_hours_file.proofs.BadPlaces.{one_bad_place}
 use Rattle.gtd_hours_file.proofs.OneKnown as known
 use Rattle.gtd_hours_file.proofs.OneOptions as timed
@@ -14,14 +14,14 @@ returns c =
     let moments = c.one_moment_text.ensures in
     let only = c.readings_without_times.ensures in
     record {
-      without = λ how none.
+      all = λ how.
           let options = how.options in
           let place = one_bad_place tokens.fault in
-          let same = known.known_same options.known none fault.fault fault.apart place text.checked text.rules text.told
+          let same = known.known_same options.known fault.fault fault.apart place text.checked text.rules text.told
           text.apart in
-          let one = known.one_known_fault options.known none fault.fault fault.apart place text.checked text.rules text.told
+          let one = known.one_known_fault options.known fault.fault fault.apart place text.checked text.rules text.told
           text.apart in
-          let apart = known.known_apart options.known none fault.fault fault.apart place text.checked text.rules text.told
+          let apart = known.known_apart options.known fault.fault fault.apart place text.checked text.rules text.told
           text.apart in
           proof.one_way options
           (timed.options_same options same one apart times.tokens times.fault times.apart moments.checked moments.places

@@ -1,6 +1,5 @@
 -- A text is one list of tokens, of which all the rest is computed.
 use Rattle.gtd_hours_holiday_rules.proofs.OneText as proof
-use Rattle.gtd_hours_holiday_rules.proofs.RuleLinks.{added}
 use Rattle.gtd_hours_holiday_rules.proofs.RulePlaces.{places}
 use Rattle.gtd_hours_holiday_rules.proofs.laws.one_holiday_text.Goals as goal
 
@@ -18,9 +17,6 @@ returns-clause-length c = λ text read p. proof.same_length text (proof.parts_in
 
 pub returns-clause-places : goal.returns-clause-places
 returns-clause-places c = λ text read p. places text (proof.parts_in text p.tokens) read p.has
-
-pub returns-clause-added : goal.returns-clause-added
-returns-clause-added c = λ text read p. added text (proof.parts_in text p.tokens) read p.has
 
 pub returns-clause-apart : goal.returns-clause-apart
 returns-clause-apart c = proof.no_fault c.one_reading.ensures.apart

@@ -4,6 +4,5 @@ use Rattle.gtd_hours_known.proofs.laws.said_by_rules.Goals as goal
 
 pub returns : goal.returns
 returns c = record {
-  seconds = λ known text found hours own is has owns second.
-      said known found hours own (c.one_holiday_text.ensures.added text found is) has owns second;
+  seconds = λ known text found hours own is has owns second. said known found hours own has owns second;
 }

@@ -10,5 +10,5 @@ loop-place-preserved c =
     let later = c.in-Some.later.now in
     let split : rest ≡ place ∷ later = c.in-Some.ensures.cases.0 in
     λ all adds. c.loop-place.invariant all
-    (remarks_left c.args.text.now rest later place c.in_ok-warning.warning c.loop-place.warnings.items
+    (remarks_left c.args.text.now c.args.form.now rest later place c.in_ok-warning.warning c.loop-place.warnings.items
     c.put_in.new.warnings.items all split c.in_ok-warning.ensures c.in_ok-put_in.ensures adds)

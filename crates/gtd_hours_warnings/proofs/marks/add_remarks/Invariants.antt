@@ -6,8 +6,8 @@ use Rattle.gtd_hours_warnings.proofs.marks.add_remarks.Given as goal
 
 abbrev pub invariant-loop-place : goal.invariant-loop-place
 invariant-loop-place l =
-    (all : List Warning) → AddsRemarks l.text l.rest l.warnings.items all
-    → AddsRemarks l.text l.places l.initial.warnings.items all
+    (all : List Warning) → AddsRemarks l.text l.form l.rest l.warnings.items all
+    → AddsRemarks l.text l.form l.places l.initial.warnings.items all
 
 abbrev pub decreases-loop-place : goal.decreases-loop-place
 decreases-loop-place l = length l.rest
