@@ -83,6 +83,7 @@ part tests/hidden_model.py
 part tests/conditional_model.py
 part tests/conditions_program.py 300 1
 part tests/hours_program.py 10 1
+part tests/hours_features.py
 part tests/known_program.py 10 1
 part tests/wider_program.py 10 1
 part tests/same.py 1000 1

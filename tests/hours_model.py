@@ -364,12 +364,26 @@ def holds(selector, date):
         return is_round(first, last, (date.month, date.day))
     if kind == "dated":
         return first <= date <= last
+    if kind == "moving":
+        return any(end_in(first, year) <= date <= end_in(last, year + selector[3]) for year in range(date.year - 2, date.year + 2))
     if kind == "weekdays":
         return is_round(first, last, date.isoweekday())
     if kind == "moved":
         return holds(("back" if selector[3] else "place", first, last), date - ONE_DAY * selector[4])
     before = date.day if kind == "place" else calendar.monthrange(date.year, date.month)[1] - date.day + 1
     return date.isoweekday() == first and (before + 6) // 7 == last
+
+
+def end_in(end, year):
+    """The day of an end of a range that moves in a year: a month and a day; or a month, a weekday, its place, whether it is counted
+    back, and how many days after it."""
+    month = end[0]
+    if len(end) == 2:
+        return datetime.date(year, *end)
+    _, weekday, number, is_back, days = end
+    places = [datetime.date(year, month, day) for day in range(1, calendar.monthrange(year, month)[1] + 1)]
+    places = [date for date in places if date.isoweekday() == weekday]
+    return places[-number if is_back else number - 1] + ONE_DAY * days
 
 
 def matches(rule, date):

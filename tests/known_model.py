@@ -3,6 +3,7 @@
 tests/holidays_model.py: which fault a text has with a table of holidays and some years, and which rules it stands for.
 
 Days are numbered from 1970-01-01. A table is a list of rows of tests/holidays_model.py, or None; years are a pair, or None."""
+import calendar
 import datetime
 from typing import NamedTuple
 
@@ -63,6 +64,93 @@ class Reader(hours_model.Reader):
                     raise Fault("Unsupported", self.found[self.at + 1].place)
             raise Fault("Unexpected", self.found[self.at].place)
         super().refuse()
+
+    def goes_with_days(self, at):
+        """Whether the sign of an offset, a number and `day` follow."""
+        return self.peek(at) in ("+", "-") and self.peek(at + 1) == "number" and self.peek(at + 2) == "day"
+
+    def is_moving(self, at, dated):
+        """Whether a range that moves begins behind so many tokens: with a place in a month, and a dash behind it and its offset;
+        or with a date, behind which come a dash, a year if there is one before, a month and a weekday."""
+        if self.peek(at) != "month":
+            return False
+        if self.peek(at + 1) == "number":
+            behind = at + 4 if dated and self.is_year(at + 3) else at + 3
+            return self.peek(at + 2) == "-" and self.peek(behind) == "month" and self.peek(behind + 1) == "weekday"
+        if (self.peek(at + 1), self.peek(at + 2)) != ("weekday", "["):
+            return False
+        number = at + 4 if self.peek(at + 3) == "-" else at + 3
+        behind = number + 2
+        if self.peek(number) != "number" or self.peek(number + 1) != "]":
+            return False
+        return self.peek(behind + 3 if self.goes_with_days(behind) else behind) == "-"
+
+    def is_dated(self):
+        return super().is_dated() or self.is_year(0) and self.is_moving(1, True)
+
+    def month_day(self):
+        dated = self.peek() == "number"
+        if not self.is_moving(1 if dated else 0, dated):
+            return super().month_day()
+        year = self.year() if dated else None
+        first = self.end_of_range(year, False)
+        self.take("-")
+        given = self.year() if dated and self.is_year(0) else None
+        last = self.end_of_range(given, True)
+        if year is not None:
+            return self.moving_dates(year, first, given, last)
+        self.check((2, 29) not in (first, last))
+        over = hours_model.end_in(last, 2000) < hours_model.end_in(first, 2000)
+        begins = [hours_model.end_in(first, each) for each in range(1800, 2799)]
+        ends = [hours_model.end_in(last, each + over) for each in range(1800, 2799)]
+        self.check(all(begin <= end for begin, end in zip(begins, ends)))
+        self.check(all(end < begin for end, begin in zip(ends, begins[1:])))
+        return [("moving", first, last, over, "months")]
+
+    def moving_dates(self, year, first, given, last):
+        """The range of dates in a year. Without a year of its own the last is of the next one if it would come before the first."""
+        begin = hours_model.end_in(first, year)
+        if given is None and len(last) == 2:
+            given = year + (last < (begin.month, begin.day))
+        elif given is None:
+            given = year + (hours_model.end_in(last, year) < begin)
+        self.check(given <= hours_model.LAST_YEAR and (last != (2, 29) or calendar.isleap(given)))
+        end = hours_model.end_in(last, given)
+        within = all(1800 <= date.year <= hours_model.LAST_YEAR for date in (begin, end))
+        self.check(within and begin <= end and (end - begin).days < hours_model.LONGEST)
+        return [("dated", begin, end, "months")]
+
+    def end_of_range(self, year, is_last):
+        """A date, or a place of a weekday in a month with its offset."""
+        month = self.month()
+        if self.peek() == "number":
+            day = self.day(year, month)
+            return (day.month, day.day) if year else day
+        weekday = self.weekday()
+        self.take("[")
+        is_back = self.goes("-")
+        number = self.number([1], 1, 4)
+        self.take("]")
+        return month, weekday, number, is_back, self.offset(is_back and number, is_last)
+
+    def offset(self, back, is_last):
+        """The days of an offset. Behind the last end a sign begins one."""
+        if not (self.peek() in ("+", "-") if is_last else self.goes_with_days(0)):
+            return 0
+        sign, is_before = self.found[self.at], self.take(self.peek()) == "-"
+        if self.peek() == "weekday":
+            raise Fault("Unsupported", self.found[self.at].place)
+        days = self.number([1, 2], 1, 27)
+        if is_before and back and 7 * back + days > 28:
+            raise Fault("Range", sign.place)
+        self.take("day")
+        return -days if is_before else days
+
+    def moved(self, items):
+        """No offset begins with a dash before a month."""
+        if self.peek() == "-" and self.peek(1) == "month":
+            self.refuse()
+        return super().moved(items)
 
     def days(self, kinds):
         """Holidays, which restrict weekdays directly behind them; or one list of holidays and weekdays."""

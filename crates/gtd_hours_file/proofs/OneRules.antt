@@ -21,8 +21,8 @@ use Rattle.gtd_hours_known.specs.Needs.{first_need, need_of, not_known, some_fal
 use Rattle.gtd_hours_known.specs.Rules.{AreAllSaid, AreGivenDays, AreHolidayRules, AreSpoken, AreWithHolidays, HasHolidays}
 use Rattle.gtd_hours_known.specs.Rules.{IsHolidayRule, IsHolidayUncovered, IsUncoveredBy, IsUncoveredIn, WithAny}
 use Rattle.gtd_hours_known.specs.declared.known.Known.{Known}
-use Rattle.gtd_hours_text.specs.Standing.{StandsFor}
-use Rattle.gtd_hours_text.specs.facts.OneMeaning.{same_rules}
+use Rattle.gtd_hours_dated.specs.Dated.{IsDatedHours}
+use Rattle.gtd_hours_dated.specs.facts.SameDated.{dated_rules}
 use Rattle.gtd_hours_text.specs.facts.SameRules.{SameRules}
 use Rattle.gtd_hours_file.proofs.Alike.{AreAllAlike, alike_append, alike_by}
 use Rattle.gtd_hours_file.proofs.AlikeDays.{made_alike}
@@ -71,10 +71,10 @@ first_need_same known (x ∷ xs) (y ∷ ys) e =
 -- ---- what they stand for
 
 -- the hours of a rule's own text
-own_rules : (x y : HolidayRule) (a b : _) → said_by x ≡ said_by y → StandsFor x.text.items a → StandsFor y.text.items b
-    → SameRules a.rules.items b.rules.items
+own_rules : (x y : HolidayRule) (a b : _) → said_by x ≡ said_by y → IsDatedHours x.text.items x.dates.items a
+    → IsDatedHours y.text.items y.dates.items b → SameRules a.rules.items b.rules.items
 own_rules x y a b same p q =
-    same_rules y.text.items a b (subst (λ (s : Said). StandsFor s.text a) same p) q
+    dated_rules y.text.items y.dates.items a b (subst (λ (s : Said). IsDatedHours s.text s.dates a) same p) q
 
 -- what is given of holidays that say the same
 days_of : (known : Known) (x y : HolidayRule) (days : List Selector) → said_by x ≡ said_by y

@@ -9,9 +9,14 @@ use Rattle.gtd_hours_tokens.specs.facts.TokenForms.{begins_inside, is_language, 
 use Rattle.gtd_hours_tokens.specs.declared.token.Token.{Token}
 use Rattle.gtd_hours_holiday_rules.specs.Checked.{checked_from, checked_text, first_or_space, form_of, put_over, written_over}
 use Rattle.gtd_hours_holiday_rules.specs.Comments.{IsBadPlace, are_whole, is_whole}
-use Rattle.gtd_hours_holiday_rules.specs.Items.{items_of}
+use Rattle.gtd_hours_moving.specs.Moving.{IsMovingFront}
+use Rattle.gtd_hours_moving.specs.declared.front.MovingFront.{MovingFront}
+use Rattle.gtd_hours_holiday_rules.specs.Fronts.{IsFrontAt, IsFrontIf, before_after, may_begin}
+use Rattle.gtd_hours_holiday_rules.specs.Items.{AreItems, AreItemsLeft, item_by, more_by}
+use Rattle.gtd_hours_holiday_rules.specs.declared.fronts.Before.{Before}
+use Rattle.gtd_hours_holiday_rules.specs.declared.items.Item.{Item}
 use Rattle.gtd_hours_holiday_rules.specs.Parts.{parts_of, told_of}
-use Rattle.gtd_hours_holiday_rules.specs.Reading.{HasParts, IsHolidayText}
+use Rattle.gtd_hours_holiday_rules.specs.Reading.{HasItems, HasParts, IsHolidayText}
 use Rattle.gtd_hours_holiday_rules.specs.Rules.{rules_of, said_by}
 use Rattle.gtd_hours_holiday_rules.specs.declared.parts.Part.{Part}
 use Rattle.gtd_hours_holiday_rules.specs.declared.text.HolidayText.{HolidayText}
@@ -40,30 +45,63 @@ same_length text parts read has = ap length has.checked ∙ length-checked_from 
 
 -- ---- one reading
 
-abbrev pub parts_in : List ℕ → List Token → List Part
-parts_in text tokens = parts_of (items_of text tokens)
+module _ (one_front : (tokens : List Token) (end : ℕ) (one other : Option MovingFront) → IsMovingFront tokens end one
+    → IsMovingFront tokens end other → one ≡ other) where
+  one_if : (c : Bool) (text : List ℕ) (ts : List Token) (x y : Option MovingFront) → IsFrontIf c text ts x → IsFrontIf c text ts y
+      → x ≡ y
+  one_if true text ts x y p q = one_front ts (length text) x y p q
+  one_if false text ts x y p q = p ∙ sym q
 
-module _ (one_list : (text : List ℕ) (one other : List Token) → AreTokens text one → AreTokens text other → one ≡ other) where
-  pub one_checked : (text : List ℕ) (a b : HolidayText) → IsHolidayText text a → IsHolidayText text b
-      → a.checked.items ≡ b.checked.items
-  one_checked text a b p q =
-      p.has.checked
-      ∙ ap (λ (ts : List Token). checked_text text (parts_in text ts)) (one_list text p.tokens q.tokens p.are q.are)
-      ∙ sym q.has.checked
+  one_at : (text : List ℕ) (b : Before) (ts : List Token) (x y : Option MovingFront) → IsFrontAt text b ts x
+      → IsFrontAt text b ts y → x ≡ y
+  one_at text b [] x y p q = p ∙ sym q
+  one_at text b (t ∷ ts) x y p q = one_if (may_begin b t.kind) text (t ∷ ts) x y p q
 
-  pub one_rules : (text : List ℕ) (a b : HolidayText) → IsHolidayText text a → IsHolidayText text b
-      → map said_by a.rules.items ≡ map said_by b.rules.items
-  one_rules text a b p q =
-      p.has.rules
-      ∙ ap (λ (ts : List Token). rules_of text (parts_in text ts)) (one_list text p.tokens q.tokens p.are q.are)
-      ∙ sym q.has.rules
+  one_left : (n : ℕ) (b : Before) (text : List ℕ) (ts : List Token) (xs ys : List Item) → AreItemsLeft n b text ts xs
+      → AreItemsLeft n b text ts ys → xs ≡ ys
+  one_left n b text [] xs ys p q = p ∙ sym q
+  one_left (suc n) b text (t ∷ ts) xs ys p q = one_left n b text ts xs ys p q
+  one_left zero b text (t ∷ ts) xs ys (f, more, at, whole, left) (g, others, front, all, rest) =
+      let same : f ≡ g = one_at text b (t ∷ ts) f g at front in
+      let left' : AreItemsLeft (more_by text t ts g) (before_after b t.kind g) text ts more =
+      subst (λ (x : Option MovingFront). AreItemsLeft (more_by text t ts x) (before_after b t.kind x) text ts more) same left
+      in
+      whole ∙ ap (λ (x : Option MovingFront). item_by text t ts x ∷ more) same
+      ∙ ap (λ (later : List Item). item_by text t ts g ∷ later)
+      (one_left (more_by text t ts g) (before_after b t.kind g) text ts more others left' rest)
+      ∙ sym all
 
-  pub one_told : (text : List ℕ) (a b : HolidayText) → IsHolidayText text a → IsHolidayText text b
-      → a.told.items ≡ b.told.items
-  one_told text a b p q =
-      p.has.told
-      ∙ ap (λ (ts : List Token). told_of (parts_in text ts)) (one_list text p.tokens q.tokens p.are q.are)
-      ∙ sym q.has.told
+  pub one_items : (text : List ℕ) (ts : List Token) (xs ys : List Item) → AreItems text ts xs → AreItems text ts ys → xs ≡ ys
+  one_items text ts xs ys p q = one_left 0 _ text ts xs ys p q
+
+  module _ (one_list : (text : List ℕ) (one other : List Token) → AreTokens text one → AreTokens text other → one ≡ other) where
+    same_items : (text : List ℕ) (a b : HolidayText) (p : IsHolidayText text a) (q : IsHolidayText text b)
+        → p.has.items ≡ q.has.items
+    same_items text a b p q =
+        one_items text q.tokens p.has.items q.has.items
+        (subst (λ (ts : List Token). AreItems text ts p.has.items) (one_list text p.tokens q.tokens p.are q.are) p.has.are)
+        q.has.are
+
+    pub one_checked : (text : List ℕ) (a b : HolidayText) → IsHolidayText text a → IsHolidayText text b
+        → a.checked.items ≡ b.checked.items
+    one_checked text a b p q =
+        p.has.has.checked
+        ∙ ap (λ (items : List Item). checked_text text (parts_of items)) (same_items text a b p q)
+        ∙ sym q.has.has.checked
+
+    pub one_rules : (text : List ℕ) (a b : HolidayText) → IsHolidayText text a → IsHolidayText text b
+        → map said_by a.rules.items ≡ map said_by b.rules.items
+    one_rules text a b p q =
+        p.has.has.rules
+        ∙ ap (λ (items : List Item). rules_of text (parts_of items)) (same_items text a b p q)
+        ∙ sym q.has.has.rules
+
+    pub one_told : (text : List ℕ) (a b : HolidayText) → IsHolidayText text a → IsHolidayText text b
+        → a.told.items ≡ b.told.items
+    one_told text a b p q =
+        p.has.has.told
+        ∙ ap (λ (items : List Item). told_of (parts_of items)) (same_items text a b p q)
+        ∙ sym q.has.has.told
 
 -- ---- no bad place
 

@@ -20,6 +20,11 @@ abbrev pub is_commented : Behind → Bool
 is_commented behind.Commented = true
 is_commented b = false
 
+-- the beginning of a range of days that has a fault
+abbrev pub is_faulty : Last → Bool
+is_faulty (last.NoDates bad) = true
+is_faulty l = false
+
 abbrev pub after_leading : Behind → ℕ → Behind
 after_leading (behind.Led at) from = behind.Led at
 after_leading b from = behind.Led from
@@ -28,6 +33,7 @@ abbrev pub after_listed : Behind → Behind
 after_listed behind.Front = behind.Holidays
 after_listed behind.Years = behind.Holidays
 after_listed behind.MonthDays = behind.Holidays
+after_listed (behind.Moving beside) = behind.Holidays
 after_listed behind.Weeks = behind.Holidays
 after_listed behind.Colon = behind.Holidays
 after_listed (behind.Weekdays l) = behind.Mixed
@@ -40,7 +46,15 @@ after_number b digits = b
 abbrev pub after_month : Behind → Behind
 after_month behind.Front = behind.MonthDays
 after_month behind.Years = behind.MonthDays
+after_month (behind.Moving beside) = behind.Moving true
 after_month b = b
+
+-- behind a range of days that moves, beside months and dates or not
+abbrev pub after_dated : Behind → Behind
+after_dated behind.Front = behind.Moving false
+after_dated behind.Years = behind.Moving false
+after_dated behind.MonthDays = behind.Moving true
+after_dated b = b
 
 abbrev pub after_weekday : Behind → Behind
 after_weekday (behind.Led from) = behind.Weekdays true
@@ -60,6 +74,7 @@ after_close b = b
 abbrev pub after_colon : Behind → Behind
 after_colon behind.Years = behind.Colon
 after_colon behind.MonthDays = behind.Colon
+after_colon (behind.Moving beside) = behind.Colon
 after_colon behind.Weeks = behind.Colon
 after_colon b = b
 
@@ -86,6 +101,7 @@ behind_after b (role.Begins l) item = behind.Front
 behind_after b role.Fallback item = behind.Front
 behind_after b (role.Leading h) item = after_leading b item.from
 behind_after b (role.Listed h) item = after_listed b
+behind_after b (role.Dated days) item = after_dated b
 behind_after b role.Misfit item = b
 behind_after b role.Silent item = behind.Done
 behind_after b role.UnknownWord item = behind.Done
@@ -103,6 +119,7 @@ last_token kind.Dash = last.Unfinished
 last_token kind.Open = last.Modifier
 last_token kind.Closed = last.Modifier
 last_token kind.Week = last.NoComment
+last_token kind.CloseBracket = last.Bracket
 last_token k = last.Other
 
 abbrev pub last_holiday : Listed → Last
@@ -112,6 +129,8 @@ last_holiday h = last.Other
 abbrev pub last_of : What → Last
 last_of (what.Token k) = last_token k
 last_of (what.Holiday h) = last_holiday h
+last_of (what.Dates days) = last.Dates
+last_of (what.NoDates bad) = last.NoDates bad
 last_of what.Comment = last.NoComment
 last_of what.Unknown = last.Modifier
 last_of what.Fallback = last.Other

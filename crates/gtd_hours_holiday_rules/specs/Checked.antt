@@ -30,11 +30,17 @@ comment_form text item =
     else if is_ascii_alphabetic (byte_before text item.from) then []
     else codes "on"
 
+-- What a range of days that moves is written over by: a month, or a bracket directly behind a letter, where it cannot stand.
+abbrev pub dates_form : List ℕ → Item → List ℕ
+dates_form text item = if is_ascii_alphabetic (byte_before text item.from) then codes "]" else codes "Jan"
+
 -- What an item of the text is written over by, if it does not stay.
 abbrev pub form_of : List ℕ → Item → Role → Option (List ℕ)
 form_of text item (role.Leading h) = Some []
 form_of text item role.Gone = Some []
 form_of text item (role.Listed h) = Some (codes "Mo")
+form_of text item (role.Dated days) = Some (dates_form text item)
+form_of text item role.Undated = Some (dates_form text item)
 form_of text item role.Doubtful = Some (codes "PH")
 form_of text item role.Misfit = Some (codes "]")
 form_of text item role.Fallback = Some (codes ";")

@@ -13,6 +13,12 @@ abbrev pub is_holiday : What → Bool
 is_holiday (what.Holiday h) = true
 is_holiday w = false
 
+-- a range of days that moves
+abbrev pub is_dates : What → Bool
+is_dates (what.Dates days) = true
+is_dates (what.NoDates bad) = true
+is_dates w = false
+
 abbrev pub is_comma : What → Bool
 is_comma (what.Token kind.Comma) = true
 is_comma w = false
@@ -42,6 +48,10 @@ is_year w = false
 abbrev pub begins : (What → Bool) → List Item → Bool
 begins is [] = false
 begins is (i ∷ later) = is i.what
+
+-- a month or a number of four digits
+abbrev pub begins_date : List Item → Bool
+begins_date items = begins is_month items || begins is_year items
 
 -- a month, a number of four digits, or a number that no slash follows
 abbrev pub begins_month_days : List Item → Bool

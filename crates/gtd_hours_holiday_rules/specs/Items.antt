@@ -1,11 +1,17 @@
--- The items of a text: its tokens. Some are holidays, with the offsets that belong to them, comments, `||` or `unknown`.
-use Rattle.std.specs.Prelude.{ℕ, zero, suc, ◌-◌, ◌&&◌, ◌==◌, Bool, true, false, List, [], ◌∷◌, Option, Some, None, is_some}
+-- The items of a text: its tokens. Some are holidays, with the offsets that belong to them, ranges of days that move, comments,
+-- `||` or `unknown`.
+use Rattle.std.specs.Prelude.{◌≡◌, ℕ, zero, suc, ◌-◌, ◌&&◌, ◌==◌, Bool, true, false, List, [], ◌∷◌, Option, Some, None, is_some}
 use Rattle.std.specs.Prelude.{bytes_eq, codes, drop, take, if◌then◌else◌}
 use Rattle.gtd_hours_days.specs.declared.listed.Listed.TheVariants as listed
 use Rattle.gtd_hours_tokens.specs.declared.token.Token.{Token}
 use Rattle.gtd_hours_tokens.specs.declared.token.TokenKind.{TokenKind}
 use Rattle.gtd_hours_tokens.specs.declared.token.TokenKind.TheVariants as kind
+use Rattle.gtd_hours_moving.specs.declared.front.MovingFront.{MovingFront}
+use Rattle.gtd_hours_moving.specs.declared.front.MovingFront.TheVariants as moving
+use Rattle.gtd_hours_holiday_rules.specs.Fronts.{IsFrontAt, before_after}
 use Rattle.gtd_hours_holiday_rules.specs.Offsets.{Placed, later, offset_front}
+use Rattle.gtd_hours_holiday_rules.specs.declared.fronts.Before.{Before}
+use Rattle.gtd_hours_holiday_rules.specs.declared.fronts.Before.TheVariants as before
 use Rattle.gtd_hours_holiday_rules.specs.declared.items.Item.{Item}
 use Rattle.gtd_hours_holiday_rules.specs.declared.items.What.{What}
 use Rattle.gtd_hours_holiday_rules.specs.declared.items.What.TheVariants as what
@@ -61,11 +67,33 @@ item_at text token ts =
 abbrev pub more_at : List ℕ → Token → List Token → ℕ
 more_at text token ts = if is_public text token && is_some (offset_front ts) then 3 else 0
 
--- The items of the tokens that are left, of which so many belong to the item before.
-abbrev pub items_left : ℕ → List ℕ → List Token → List Item
-items_left n text [] = []
-items_left (suc n) text (t ∷ ts) = items_left n text ts
-items_left zero text (t ∷ ts) = item_at text t ts ∷ items_left (more_at text t ts) text ts
+-- The item of a range of days that moves, or of its first token if it has a fault.
+abbrev pub range_item : Token → MovingFront → Item
+range_item token (moving.Range days tokens to) = record { what = what.Dates days; from = token.from; to = to }
+range_item token (moving.Fault bad) = record { what = what.NoDates bad; from = token.from; to = token.to }
 
-abbrev pub items_of : List ℕ → List Token → List Item
-items_of text tokens = items_left 0 text tokens
+abbrev pub more_of_range : MovingFront → ℕ
+more_of_range (moving.Range days tokens to) = tokens - 1
+more_of_range (moving.Fault bad) = 0
+
+-- The item where a range of days that moves begins with the token, or none does.
+abbrev pub item_by : List ℕ → Token → List Token → Option MovingFront → Item
+item_by text token ts None = item_at text token ts
+item_by text token ts (Some found) = range_item token found
+
+abbrev pub more_by : List ℕ → Token → List Token → Option MovingFront → ℕ
+more_by text token ts None = more_at text token ts
+more_by text token ts (Some found) = more_of_range found
+
+-- These are the items of the tokens that are left behind something, of which so many belong to the item before.
+abbrev pub AreItemsLeft : ℕ → Before → List ℕ → List Token → List Item → Type 0
+AreItemsLeft n b text [] items = items ≡ []
+AreItemsLeft (suc n) b text (t ∷ ts) items = AreItemsLeft n b text ts items
+AreItemsLeft zero b text (t ∷ ts) items =
+    (front : Option MovingFront) × (more : List Item) × IsFrontAt text b (t ∷ ts) front
+    × (items ≡ item_by text t ts front ∷ more)
+    × AreItemsLeft (more_by text t ts front) (before_after b t.kind front) text ts more
+
+-- These are the items of a text with these tokens.
+abbrev pub AreItems : List ℕ → List Token → List Item → Type 0
+AreItems text tokens items = AreItemsLeft 0 before.Other text tokens items

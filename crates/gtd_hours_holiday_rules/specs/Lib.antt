@@ -1,4 +1,5 @@
 pub mod Offsets
+pub mod Fronts
 pub mod Items
 pub mod Comments
 pub mod Coming

@@ -8,7 +8,8 @@ use Rattle.gtd_hours_holiday_rules.specs.declared.stop.NoHolidayText.TheVariants
 use Rattle.gtd_hours_holiday_rules.specs.declared.text.HolidayText.{HolidayText}
 use Rattle.gtd_hours_holiday_rules.specs.Checked.{checked_text}
 use Rattle.gtd_hours_holiday_rules.specs.Comments.{IsBadPlace, are_whole}
-use Rattle.gtd_hours_holiday_rules.specs.Items.{items_of}
+use Rattle.gtd_hours_holiday_rules.specs.Items.{AreItems}
+use Rattle.gtd_hours_holiday_rules.specs.declared.items.Item.{Item}
 use Rattle.gtd_hours_holiday_rules.specs.Parts.{parts_of, told_of}
 use Rattle.gtd_hours_holiday_rules.specs.Rules.{rules_of, said_by}
 
@@ -18,12 +19,18 @@ pub record HasParts (text : List ℕ) (parts : List Part) (read : HolidayText) :
   pub rules : map said_by read.rules.items ≡ rules_of text parts
   pub told : read.told.items ≡ told_of parts
 
+-- The text with the parts of its items is so, where these are its tokens.
+pub record HasItems (text : List ℕ) (tokens : List Token) (read : HolidayText) : Type 0 where
+  pub items : List Item
+  pub are : AreItems text tokens items
+  pub has : HasParts text (parts_of items) read
+
 -- The text, of these tokens, with comments that end, is so.
 pub record IsHolidayText (text : List ℕ) (read : HolidayText) : Type 0 where
   pub tokens : List Token
   pub are : AreTokens text tokens
   pub whole : are_whole text tokens ≡ true
-  pub has : HasParts text (parts_of (items_of text tokens)) read
+  pub has : HasItems text tokens read
 
 -- Why it is not: a byte with which no token begins or a comment that is not whole, whichever stands first, or want of memory.
 abbrev pub IsNoHolidayText : List ℕ → NoHolidayText → Type 0

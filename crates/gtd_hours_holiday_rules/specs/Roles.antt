@@ -1,5 +1,5 @@
 -- What becomes of an item, by what stands behind and before it.
-use Rattle.std.specs.Prelude.{Bool, true, false, ◌&&◌, not, List, if◌then◌else◌}
+use Rattle.std.specs.Prelude.{Bool, true, false, ◌&&◌, ◌||◌, not, List, if◌then◌else◌}
 use Rattle.gtd_hours.specs.declared.hours.Link.TheVariants as link
 use Rattle.gtd_hours_days.specs.declared.listed.Listed.{Listed}
 use Rattle.gtd_hours_tokens.specs.declared.token.TokenKind.{TokenKind}
@@ -14,9 +14,9 @@ use Rattle.gtd_hours_holiday_rules.specs.declared.behind.Last.TheVariants as las
 use Rattle.gtd_hours_holiday_rules.specs.declared.behind.Position.{Position}
 use Rattle.gtd_hours_holiday_rules.specs.declared.role.Role.{Role}
 use Rattle.gtd_hours_holiday_rules.specs.declared.role.Role.TheVariants as role
-use Rattle.gtd_hours_holiday_rules.specs.Behind.{is_commented}
-use Rattle.gtd_hours_holiday_rules.specs.Coming.{begins, begins_month_days, is_holiday, is_number, is_time, is_weekday, is_year}
-use Rattle.gtd_hours_holiday_rules.specs.Coming.{leads}
+use Rattle.gtd_hours_holiday_rules.specs.Behind.{is_commented, is_faulty}
+use Rattle.gtd_hours_holiday_rules.specs.Coming.{begins, begins_date, begins_month_days, is_dates, is_holiday, is_month}
+use Rattle.gtd_hours_holiday_rules.specs.Coming.{is_number, is_time, is_weekday, is_year, leads}
 
 -- a holiday where a list of days begins
 abbrev pub first_role : Listed → List Item → Role
@@ -32,6 +32,7 @@ abbrev pub holiday_role : Behind → Last → Listed → List Item → Role
 holiday_role behind.Front l h later = first_role h later
 holiday_role behind.Years l h later = first_role h later
 holiday_role behind.MonthDays l h later = first_role h later
+holiday_role (behind.Moving beside) l h later = first_role h later
 holiday_role behind.Weeks l h later = first_role h later
 holiday_role behind.Colon l h later = first_role h later
 holiday_role (behind.Led from) l h later = role.Leading h
@@ -49,17 +50,30 @@ days_comma weekdays later =
     else if begins is_holiday later then role.Unwritten
     else role.Begins link.Also
 
-abbrev pub comma_role : Behind → List Item → Role
-comma_role (behind.Led from) later = role.Gone
-comma_role behind.Holidays later = days_comma false later
-comma_role (behind.Weekdays l) later = days_comma true later
-comma_role behind.Mixed later = days_comma true later
-comma_role behind.Years later = kept_if (begins is_year later)
-comma_role behind.MonthDays later = kept_if (begins_month_days later)
-comma_role behind.Weeks later = kept_if (begins is_number later)
-comma_role behind.Times later = kept_if (begins is_time later)
-comma_role (behind.Places l) later = role.Kept
-comma_role b later = role.Begins link.Also
+-- Month days go on behind a comma: directly behind a range that moves not with the number of a day.
+abbrev pub dates_go_on : Last → List Item → Bool
+dates_go_on last.Dates later = begins_date later
+dates_go_on l later = begins_month_days later
+
+-- a comma behind a list of month days, with months or dates or without: in the rule's own text it stands between these alone
+abbrev pub dates_comma : Bool → Last → List Item → Role
+dates_comma beside l later =
+    if begins is_dates later then role.Unwritten
+    else if dates_go_on l later then if beside then role.Kept else role.Unwritten
+    else role.Begins link.Also
+
+abbrev pub comma_role : Behind → Last → List Item → Role
+comma_role (behind.Led from) l later = role.Gone
+comma_role behind.Holidays l later = days_comma false later
+comma_role (behind.Weekdays led) l later = days_comma true later
+comma_role behind.Mixed l later = days_comma true later
+comma_role behind.Years l later = kept_if (begins is_year later)
+comma_role behind.MonthDays l later = dates_comma true l later
+comma_role (behind.Moving beside) l later = dates_comma beside l later
+comma_role behind.Weeks l later = kept_if (begins is_number later)
+comma_role behind.Times l later = kept_if (begins is_time later)
+comma_role (behind.Places led) l later = role.Kept
+comma_role b l later = role.Begins link.Also
 
 -- a weekday directly behind a holiday in a list of weekdays
 abbrev pub weekday_role : Behind → Last → Role
@@ -67,19 +81,41 @@ weekday_role behind.Mixed last.Comma = role.Kept
 weekday_role behind.Mixed l = role.Doubtful
 weekday_role b l = role.Kept
 
--- a bracket or the sign of an offset: holidays have neither here
-abbrev pub sign_role : Behind → Role
-sign_role behind.Holidays = role.Misfit
-sign_role behind.Mixed = role.Misfit
-sign_role b = role.Kept
+-- a bracket: holidays have none
+abbrev pub bracket_role : Behind → Role
+bracket_role behind.Holidays = role.Misfit
+bracket_role behind.Mixed = role.Misfit
+bracket_role b = role.Kept
+
+-- a sign: holidays have no more offsets here, and ranges that move have none
+abbrev pub sign_role : Behind → Last → Role
+sign_role b last.Dates = role.Misfit
+sign_role b l = bracket_role b
+
+-- a dash, which is the sign of an offset or goes on with a range: with none behind places, before a month
+abbrev pub dash_role : Behind → Last → List Item → Role
+dash_role b last.Bracket later = if begins is_month later then role.Misfit else bracket_role b
+dash_role b l later = sign_role b l
+
+-- a number: none stands directly behind a range that moves
+abbrev pub number_role : Last → Role
+number_role last.Dates = role.Misfit
+number_role l = role.Kept
+
+-- a colon: the rule's own text has none behind ranges that move
+abbrev pub colon_role : Behind → Role
+colon_role (behind.Moving beside) = role.Unwritten
+colon_role b = role.Kept
 
 abbrev pub token_role : Behind → Last → TokenKind → List Item → Role
-token_role b l kind.Comma later = comma_role b later
+token_role b l kind.Comma later = comma_role b l later
 token_role b l kind.Semicolon later = role.Begins link.Instead
 token_role b l (kind.Weekday d) later = weekday_role b l
-token_role b l kind.OpenBracket later = sign_role b
-token_role b l kind.Plus later = sign_role b
-token_role b l kind.Dash later = sign_role b
+token_role b l kind.OpenBracket later = bracket_role b
+token_role b l kind.Plus later = sign_role b l
+token_role b l kind.Dash later = dash_role b l later
+token_role b l (kind.Number v d) later = number_role l
+token_role b l kind.Colon later = colon_role b
 token_role b l k later = role.Kept
 
 -- A comment that says something of its rule: one with times, or of all days and times, is open, and others are unknown.
@@ -105,11 +141,14 @@ separates w = false
 abbrev pub role_in : Position → What → List Item → Role
 role_in p (what.Holiday h) later = holiday_role p.behind p.last h later
 role_in p (what.Token k) later = token_role p.behind p.last k later
+role_in p (what.Dates days) later = role.Dated days
+role_in p (what.NoDates bad) later = role.Undated
 role_in p what.Comment later = comment_role p.behind p.last
 role_in p what.Fallback later = role.Fallback
 role_in p what.Unknown later = role.UnknownWord
 
--- What becomes of an item at a position. Behind a comment on a rule only another rule can begin.
+-- What becomes of an item at a position. Behind a comment on a rule only another rule can begin; a range of days with a fault has
+-- it behind its first token.
 abbrev pub role_of : Position → Item → List Item → Role
 role_of p item later =
-    if is_commented p.behind && not (separates item.what) then role.Misfit else role_in p item.what later
+    if is_faulty p.last || (is_commented p.behind && not (separates item.what)) then role.Misfit else role_in p item.what later

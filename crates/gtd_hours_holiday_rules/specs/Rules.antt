@@ -3,6 +3,7 @@ use Rattle.std.specs.Prelude.{◌≡◌, ⊤, length, ℕ, Bool, true, false, Li
 use Rattle.std.specs.Prelude.{[], ◌∷◌, ◌++◌, Option, Some, None, codes, map, if◌then◌else◌}
 use Rattle.gtd_hours.specs.declared.hours.Link.{Link}
 use Rattle.gtd_hours.specs.declared.hours.Link.TheVariants as link
+use Rattle.gtd_hours.specs.declared.hours.Selector.{Selector}
 use Rattle.gtd_hours_days.specs.declared.listed.Listed.{Listed}
 use Rattle.gtd_hours_holiday_rules.specs.declared.items.Item.{Item}
 use Rattle.gtd_hours_holiday_rules.specs.declared.parts.Part.{Part}
@@ -19,6 +20,7 @@ pub record Said : Type 0 where
   pub is_led : Bool
   pub holidays : List Listed
   pub places : List ℕ
+  pub dates : List Selector
   pub unknown : Option ℕ
   pub remark : Option ℕ
 
@@ -29,6 +31,7 @@ said_by rule = record {
   is_led = rule.is_led;
   holidays = rule.holidays.items;
   places = rule.places.items;
+  dates = rule.dates.items;
   unknown = rule.unknown;
   remark = rule.remark;
 }
@@ -41,6 +44,7 @@ begun link = record {
   is_led = false;
   holidays = [];
   places = [];
+  dates = [];
   unknown = None;
   remark = None;
 }
@@ -51,15 +55,19 @@ with_text rule bytes = record rule { text = rule.text ++ bytes }
 abbrev pub with_holiday : Said → Listed → ℕ → Said
 with_holiday rule h place = record rule { holidays = rule.holidays ++ h ∷ []; places = rule.places ++ place ∷ [] }
 
+abbrev pub with_date : Said → Selector → Said
+with_date rule days = record rule { dates = rule.dates ++ days ∷ [] }
+
 abbrev pub with_leading : Said → Listed → ℕ → Said
 with_leading rule h place = record (with_holiday rule h place) { is_led = true }
 
--- An item with this role goes on with a rule: its bytes and a space (32), its holiday, or the place where it makes the rule
--- unknown or remarks on it.
+-- An item with this role goes on with a rule: its bytes and a space (32), its holiday, its range of days that moves, or the place
+-- where it makes the rule unknown or remarks on it.
 abbrev pub with_item : List ℕ → Said → Role → Item → Said
 with_item text rule role.Kept item = with_text rule (stretch text item.from item.to ++ 32 ∷ [])
 with_item text rule (role.Leading h) item = with_leading rule h item.from
 with_item text rule (role.Listed h) item = with_holiday rule h item.from
+with_item text rule (role.Dated days) item = with_date rule days
 with_item text rule role.UnknownWord item = record rule { unknown = Some item.from }
 with_item text rule role.UnknownComment item = record rule { unknown = Some item.from }
 with_item text rule role.Remark item = record rule { remark = Some item.from }

@@ -1,5 +1,7 @@
 -- How faults of the checked text are told.
-use Rattle.std.specs.Prelude.{ℕ, ◌+◌, ◌&&◌, ◌==◌, nat_lt, Bool, true, false, List, [], ◌∷◌, Option, Some, None, if◌then◌else◌}
+use Rattle.std.specs.Prelude.{ℕ, ◌+◌, ◌&&◌, ◌||◌, ◌==◌, nat_lt, Bool, true, false, List, [], ◌∷◌, Option, Some, None}
+use Rattle.std.specs.Prelude.{if◌then◌else◌}
+use Rattle.gtd_hours_grammar.specs.declared.fault.FaultKind.{FaultKind}
 use Rattle.gtd_hours_grammar.specs.declared.fault.FaultKind.TheVariants as fault
 use Rattle.gtd_hours_grammar.specs.declared.fault.HoursFault.{HoursFault}
 use Rattle.gtd_hours_tokens.specs.declared.token.TokenKind.TheVariants as kind
@@ -44,6 +46,10 @@ abbrev pub is_public : Last → Bool
 is_public last.Public = true
 is_public l = false
 
+abbrev pub is_dates : Last → Bool
+is_dates last.Dates = true
+is_dates l = false
+
 -- What is wrong at the sign of an offset that is none, by the last item before it and those behind it. Directly behind a public
 -- holiday it is the number, where there are days; or a weekday, to which no offset leads. Else it is the sign itself.
 abbrev pub sign_fault : Last → ℕ → List Item → HoursFault
@@ -58,17 +64,55 @@ is_foreign (what.Token kind.Unsupported) = true
 is_foreign (what.Token kind.Plus) = true
 is_foreign w = false
 
--- what is wrong at an item behind a comment on its rule
-abbrev pub commented_fault : Item → HoursFault
-commented_fault item =
+-- what is wrong at an item that nothing of its kind can follow: behind a comment on its rule, or a range that moves
+abbrev pub fault_at : Item → HoursFault
+fault_at item =
     if is_foreign item.what then record { kind = fault.Unsupported; place = item.from }
     else record { kind = fault.Unexpected; place = item.from }
 
 -- What is wrong at an item that cannot stand where it does.
-abbrev pub misfit_fault : Position → Item → List Item → HoursFault
-misfit_fault p item later =
-    if is_commented p.behind then commented_fault item
+abbrev pub unfit_fault : Position → Item → List Item → HoursFault
+unfit_fault p item later =
+    if is_commented p.behind || is_dates p.last then fault_at item
     else if is_sign item.what then sign_fault p.last item.from later else record { kind = fault.Unexpected; place = item.from }
+
+-- what is wrong with a `+` that cannot stand behind an item
+abbrev pub plus_kind : What → FaultKind
+plus_kind (what.Token (kind.Number value digits)) = if digits == 4 then fault.Unexpected else fault.Unsupported
+plus_kind (what.Token (kind.Weekday d)) = fault.Unexpected
+plus_kind (what.Token kind.Plus) = fault.Unexpected
+plus_kind w = fault.Unsupported
+
+-- and with any item: a token that a range of days does not go on with has this kind of fault
+abbrev pub misfit_kind : What → What → FaultKind → FaultKind
+misfit_kind before (what.Token kind.Plus) k = plus_kind before
+misfit_kind before (what.Token t) k = k
+misfit_kind before w k = fault.Unexpected
+
+-- with the item of this fault among these behind another
+abbrev pub kind_among : What → HoursFault → List Item → FaultKind
+kind_among before bad [] = bad.kind
+kind_among before bad (i ∷ later) =
+    if i.from == bad.place then misfit_kind before i.what bad.kind else kind_among i.what bad later
+
+-- a token that cannot stand where it does
+abbrev pub is_misfit : FaultKind → Bool
+is_misfit fault.Unexpected = true
+is_misfit fault.Unsupported = true
+is_misfit k = false
+
+-- What is wrong with a range of days whose first token comes directly before an item.
+abbrev pub fault_in_range : HoursFault → Item → List Item → HoursFault
+fault_in_range bad item later =
+    if is_misfit bad.kind then record { kind = kind_among item.what bad later; place = bad.place } else bad
+
+-- The same, or what is wrong with the range of days before it.
+abbrev pub misfit_by : Last → Position → Item → List Item → HoursFault
+misfit_by (last.NoDates bad) p item later = fault_in_range bad item later
+misfit_by l p item later = unfit_fault p item later
+
+abbrev pub misfit_fault : Position → Item → List Item → HoursFault
+misfit_fault p item later = misfit_by p.last p item later
 
 -- a fault at a weekday behind leading holidays is told where these begin
 abbrev pub led_instead : Behind → What → Option Instead

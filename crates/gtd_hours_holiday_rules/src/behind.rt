@@ -1,14 +1,15 @@
 //! What stands behind the items of a text, and what becomes of the next one there.
 
 ghost use Rattle.std.specs.Prelude.{◌≡◌};
-ghost use Rattle.gtd_hours_holiday_rules.specs.Behind.{after, after_close, after_colon, after_leading, after_listed};
+ghost use Rattle.gtd_hours_holiday_rules.specs.Behind.{after, after_close, after_colon, after_dated, after_leading, after_listed};
 ghost use Rattle.gtd_hours_holiday_rules.specs.Behind.{after_month, after_number, after_open, after_token, after_weekday};
-ghost use Rattle.gtd_hours_holiday_rules.specs.Behind.{after_what, behind_after, front, is_commented, last_holiday};
+ghost use Rattle.gtd_hours_holiday_rules.specs.Behind.{after_what, behind_after, front, is_commented, is_faulty, last_holiday};
 ghost use Rattle.gtd_hours_holiday_rules.specs.Behind.{last_of, last_token};
 
 use crate::items::{Item, What};
 use crate::role::Role;
 use gtd_hours_days::Listed;
+use gtd_hours_grammar::HoursFault;
 use gtd_hours_tokens::TokenKind;
 
 /// What stands behind the items of a text so far.
@@ -20,6 +21,11 @@ pub enum Behind {
     Years,
     /// Months and dates.
     MonthDays,
+    /// Ranges of days that move.
+    Moving {
+        /// Whether months or dates stand in the same list.
+        beside: bool,
+    },
     /// Weeks.
     Weeks,
     /// One of these, and a colon.
@@ -60,6 +66,12 @@ pub enum Last {
     Unfinished,
     /// A public holiday.
     Public,
+    /// A range of days that moves.
+    Dates,
+    /// The beginning of such a range, which has this fault.
+    NoDates(HoursFault),
+    /// The bracket behind places.
+    Bracket,
     /// A word that says whether a rule is open: a comment directly behind it says why.
     Modifier,
     /// The word `week`, or a comment: no comment stands directly behind it.
@@ -97,6 +109,16 @@ pub fn is_commented(behind: Behind) -> bool
     }
 }
 
+/// Whether it is the beginning of a range of days that has a fault.
+pub fn is_faulty(last: Last) -> bool
+    ensures { result ≡ is_faulty last }
+{
+    match last {
+        Last::NoDates(_) => true,
+        _ => false,
+    }
+}
+
 fn after_leading(behind: Behind, from: usize) -> Behind
     ensures { result ≡ after_leading behind from }
 {
@@ -113,6 +135,7 @@ fn after_listed(behind: Behind) -> Behind
         Behind::Front => Behind::Holidays,
         Behind::Years => Behind::Holidays,
         Behind::MonthDays => Behind::Holidays,
+        Behind::Moving { .. } => Behind::Holidays,
         Behind::Weeks => Behind::Holidays,
         Behind::Colon => Behind::Holidays,
         Behind::Weekdays { .. } => Behind::Mixed,
@@ -141,6 +164,18 @@ fn after_month(behind: Behind) -> Behind
     match behind {
         Behind::Front => Behind::MonthDays,
         Behind::Years => Behind::MonthDays,
+        Behind::Moving { .. } => Behind::Moving { beside: true },
+        _ => behind,
+    }
+}
+
+fn after_dated(behind: Behind) -> Behind
+    ensures { result ≡ after_dated behind }
+{
+    match behind {
+        Behind::Front => Behind::Moving { beside: false },
+        Behind::Years => Behind::Moving { beside: false },
+        Behind::MonthDays => Behind::Moving { beside: true },
         _ => behind,
     }
 }
@@ -180,6 +215,7 @@ fn after_colon(behind: Behind) -> Behind
     match behind {
         Behind::Years => Behind::Colon,
         Behind::MonthDays => Behind::Colon,
+        Behind::Moving { .. } => Behind::Colon,
         Behind::Weeks => Behind::Colon,
         _ => behind,
     }
@@ -220,6 +256,7 @@ fn behind_after(behind: Behind, role: Role, item: Item) -> Behind
         Role::Fallback => Behind::Front,
         Role::Leading(_) => after_leading(behind, item.from),
         Role::Listed(_) => after_listed(behind),
+        Role::Dated(_) => after_dated(behind),
         Role::Misfit => behind,
         Role::Silent => Behind::Done,
         Role::UnknownWord => Behind::Done,
@@ -240,6 +277,7 @@ fn last_token(kind: TokenKind) -> Last
         TokenKind::Open => Last::Modifier,
         TokenKind::Closed => Last::Modifier,
         TokenKind::Week => Last::NoComment,
+        TokenKind::CloseBracket => Last::Bracket,
         _ => Last::Other,
     }
 }
@@ -259,6 +297,8 @@ fn last_of(what: What) -> Last
     match what {
         What::Token(kind) => last_token(kind),
         What::Holiday(holiday) => last_holiday(holiday),
+        What::Dates(_) => Last::Dates,
+        What::NoDates(bad) => Last::NoDates(bad),
         What::Comment => Last::NoComment,
         What::Unknown => Last::Modifier,
         What::Fallback => Last::Other,

@@ -1,8 +1,8 @@
 //! The checked text: plain hours of the same length.
 
 ghost use Rattle.std.specs.Prelude.{◌≡◌, ◌-◌, IfOk, drop, option_map, set};
-ghost use Rattle.gtd_hours_holiday_rules.specs.Checked.{byte_before, checked_from, checked_text, comment_form, first_or_space};
-ghost use Rattle.gtd_hours_holiday_rules.specs.Checked.{form_of, put_over, written_over};
+ghost use Rattle.gtd_hours_holiday_rules.specs.Checked.{byte_before, checked_from, checked_text, comment_form, dates_form};
+ghost use Rattle.gtd_hours_holiday_rules.specs.Checked.{first_or_space, form_of, put_over, written_over};
 
 use crate::items::{Item, stretch};
 use crate::parts::Part;
@@ -76,6 +76,17 @@ fn comment_form(text: &[u8], item: Item) -> &'static [u8]
     }
 }
 
+// What a range of days that moves is written over by: a month, or a bracket directly behind a letter, where it cannot stand.
+fn dates_form(text: &[u8], item: Item) -> &'static [u8]
+    ensures { result.now ≡ dates_form text.now item }
+{
+    if byte_before(text, item.from).is_ascii_alphabetic() {
+        b"]".as_slice()
+    } else {
+        b"Jan".as_slice()
+    }
+}
+
 // What an item of which this becomes is written over by, if it does not stay.
 fn form_of(text: &[u8], item: Item, role: Role) -> Option<&'static [u8]>
     ensures { option_map (λ form. form.now) result ≡ form_of text.now item role }
@@ -84,6 +95,8 @@ fn form_of(text: &[u8], item: Item, role: Role) -> Option<&'static [u8]>
         Role::Leading(_) => Some(b"".as_slice()),
         Role::Gone => Some(b"".as_slice()),
         Role::Listed(_) => Some(b"Mo".as_slice()),
+        Role::Dated(_) => Some(dates_form(text, item)),
+        Role::Undated => Some(dates_form(text, item)),
         Role::Doubtful => Some(b"PH".as_slice()),
         Role::Misfit => Some(b"]".as_slice()),
         Role::Fallback => Some(b";".as_slice()),

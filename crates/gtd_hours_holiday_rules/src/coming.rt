@@ -1,8 +1,8 @@
 //! The items to come.
 
 ghost use Rattle.std.specs.Prelude.{◌≡◌, false};
-ghost use Rattle.gtd_hours_holiday_rules.specs.Coming.{begins, begins_month_days, is_comma, is_holiday, is_month, is_number};
-ghost use Rattle.gtd_hours_holiday_rules.specs.Coming.{is_slash, is_time, is_weekday, is_year, leads};
+ghost use Rattle.gtd_hours_holiday_rules.specs.Coming.{begins, begins_date, begins_month_days, is_comma, is_dates, is_holiday};
+ghost use Rattle.gtd_hours_holiday_rules.specs.Coming.{is_month, is_number, is_slash, is_time, is_weekday, is_year, leads};
 
 use crate::items::{Item, What};
 use gtd_hours_tokens::TokenKind;
@@ -22,6 +22,16 @@ fn is_holiday(what: What) -> bool
 {
     match what {
         What::Holiday(_) => true,
+        _ => false,
+    }
+}
+
+fn is_dates(what: What) -> bool
+    ensures { result ≡ is_dates what }
+{
+    match what {
+        What::Dates(_) => true,
+        What::NoDates(_) => true,
         _ => false,
     }
 }
@@ -100,6 +110,33 @@ pub fn begins_holiday(items: &[Item]) -> bool
         None => false,
         Some(item) => is_holiday(item.what),
     }
+}
+
+/// Whether it is a range of days that moves.
+pub fn begins_dates(items: &[Item]) -> bool
+    ensures { result ≡ begins is_dates items.now }
+{
+    match items.first() {
+        None => false,
+        Some(item) => is_dates(item.what),
+    }
+}
+
+/// Whether it is a month.
+pub fn begins_month(items: &[Item]) -> bool
+    ensures { result ≡ begins is_month items.now }
+{
+    match items.first() {
+        None => false,
+        Some(item) => is_month(item.what),
+    }
+}
+
+/// Whether it is a month or a number of four digits.
+pub fn begins_date(items: &[Item]) -> bool
+    ensures { result ≡ begins_date items.now }
+{
+    begins_month(items) || begins_year(items)
 }
 
 /// Whether it is a number of four digits.

@@ -1,11 +1,17 @@
-//! The items of a text: its tokens, of which some are holidays, comments, or of rules that fall back or are unknown.
+//! The items of a text: its tokens, of which some are holidays, ranges of days that move, comments, or of rules that fall back
+//! or are unknown.
 
-ghost use Rattle.std.specs.Prelude.{◌≡◌, IfOk};
-ghost use Rattle.gtd_hours_holiday_rules.specs.Items.{begins_quoted, is_comment, is_public, is_school, is_unread, is_word};
-ghost use Rattle.gtd_hours_holiday_rules.specs.Items.{item_at, items_of, more_at, public_with, stretch, what_of};
+ghost use Rattle.std.specs.Prelude.{◌≡◌, ◌++◌, IfOk, List};
+ghost use Rattle.gtd_hours_holiday_rules.specs.Items.{AreItems, begins_quoted, is_comment, is_public, is_school, is_unread};
+ghost use Rattle.gtd_hours_holiday_rules.specs.Items.{is_word, item_at, item_by, more_at, more_by, more_of_range, public_with};
+ghost use Rattle.gtd_hours_holiday_rules.specs.Items.{range_item, stretch, what_of};
 
+use crate::fronts::{Before, before_after, front_at};
 use crate::offsets::{later, offset_front};
+use gtd_hours::Selector;
 use gtd_hours_days::{Listed, Offset};
+use gtd_hours_grammar::HoursFault;
+use gtd_hours_moving::MovingFront;
 use gtd_hours_tokens::{Token, TokenKind};
 use std::alloc::{AllocError, Global};
 
@@ -16,6 +22,10 @@ pub enum What {
     Token(TokenKind),
     /// A holiday, with its offset.
     Holiday(Listed),
+    /// A range of days that moves.
+    Dates(Selector),
+    /// The first token of such a range that has a fault.
+    NoDates(HoursFault),
     /// A comment.
     Comment,
     /// `||`, the sign of a fallback rule.
@@ -150,19 +160,70 @@ fn more_at(text: &[u8], token: Token, later: &[Token]) -> u8
     }
 }
 
+// The item that begins with a token with which a range of days that moves begins.
+fn range_item(token: Token, found: MovingFront) -> Item
+    ensures { result ≡ range_item token found }
+{
+    match found {
+        MovingFront::Range { days, to, .. } => Item {
+            what: What::Dates(days),
+            from: token.from,
+            to,
+        },
+        MovingFront::Fault(bad) => Item {
+            what: What::NoDates(bad),
+            from: token.from,
+            to: token.to,
+        },
+    }
+}
+
+// How many of the tokens behind the first one belong to it.
+fn more_of_range(found: MovingFront) -> usize
+    ensures { result ≡ more_of_range found }
+{
+    match found {
+        MovingFront::Range { tokens, .. } => tokens.saturating_sub(1),
+        MovingFront::Fault(_) => 0,
+    }
+}
+
+// The item that begins with a token, where these come behind it and a range of days that moves begins with it or not.
+fn item_by(text: &[u8], token: Token, later: &[Token], front: Option<MovingFront>) -> Item
+    ensures { result ≡ item_by text.now token later.now front }
+{
+    match front {
+        None => item_at(text, token, later),
+        Some(found) => range_item(token, found),
+    }
+}
+
+// How many of the tokens behind the first one of that item belong to it.
+fn more_by(text: &[u8], token: Token, later: &[Token], front: Option<MovingFront>) -> usize
+    ensures { result ≡ more_by text.now token later.now front }
+{
+    match front {
+        None => usize::from(more_at(text, token, later)),
+        Some(found) => more_of_range(found),
+    }
+}
+
 /// The items of a text with these tokens.
 pub fn items_of(alloc: Global, text: &[u8], tokens: &[Token]) -> Result<Vec<Item>, AllocError>
-    ensures { IfOk result (λ items. items.items ≡ items_of text.now tokens.now) }
+    ensures { IfOk result (λ items. AreItems text.now tokens.now items.items) }
 {
     let mut items = Vec::new(alloc);
-    let mut skipped: u8 = 0;
+    let mut before = Before::Other;
+    let mut skipped: usize = 0;
     let mut rest = tokens;
     while let Some((token, later)) = rest.split_first() {
         if skipped > 0 {
             skipped -= 1;
         } else {
-            items.push(item_at(text, *token, later))?;
-            skipped = more_at(text, *token, later);
+            let front = front_at(text, before, rest);
+            items.push(item_by(text, *token, later, front))?;
+            skipped = more_by(text, *token, later, front);
+            before = before_after(before, token.kind, front);
         }
         rest = later;
     }

@@ -6,6 +6,7 @@ ghost use Rattle.gtd_hours_holiday_rules.specs.Reading.{IsHolidayText};
 ghost use Rattle.gtd_hours_holiday_rules.specs.Rules.{HavePlaces, said_by};
 ghost use Rattle.gtd_hours_holiday_rules.specs.declared.text.HolidayText.{HolidayText};
 
+use gtd_hours_moving::laws::one_moving_front;
 use gtd_hours_tokens::laws::one_reading;
 
 /// A text has one checked text at most, of its length, one list of rules, with a place for each of their holidays, and one way
@@ -24,4 +25,5 @@ pub fn one_holiday_text()
     ensures apart { (text : List ℕ) (read : HolidayText) (place : ℕ) → IsHolidayText text read → IsBadPlace text place → ⊥ }
 {
     one_reading();
+    one_moving_front();
 }

@@ -1,14 +1,15 @@
 //! Opening hours of OpenStreetMap with public and school holidays, comments, unknown and fallback rules: a text as plain hours
 //! and what is said beside them.
 //!
-//! A text is turned into rules, each with a text of plain hours, its holidays and what else is said of it, and into one text of
-//! plain hours of the same length, which has a fault exactly where the text has one.
+//! A text is turned into rules, each with a text of plain hours, its holidays, its ranges of days that move and what else is said
+//! of it, and into one text of plain hours of the same length, which has a fault exactly where the text has one.
 #![tactic(auto)]
 
 mod behind;
 mod checked;
 mod coming;
 mod comments;
+mod fronts;
 mod items;
 pub mod laws;
 mod offsets;

@@ -1,6 +1,6 @@
 //! What becomes of an item.
 
-use gtd_hours::Link;
+use gtd_hours::{Link, Selector};
 use gtd_hours_days::Listed;
 
 /// What becomes of an item, in the checked text and in the text of its rule.
@@ -16,6 +16,10 @@ pub enum Role {
     Unwritten,
     /// Another holiday of the rule: a weekday stands for it in the checked text.
     Listed(Listed),
+    /// Month days of the rule that are not in its own text: a month stands for them in the checked text.
+    Dated(Selector),
+    /// Month days that have a fault: a month stands for them in the checked text, which has a fault behind it.
+    Undated,
     /// People read what stands here in two ways: the checked text has a fault here.
     Doubtful,
     /// A sign or a bracket that holidays do not have, or what cannot stand where it does: the checked text has a fault here.

@@ -1,14 +1,15 @@
 //! What becomes of an item, by what stands behind and before it.
 
 ghost use Rattle.std.specs.Prelude.{◌≡◌};
-ghost use Rattle.gtd_hours_holiday_rules.specs.Roles.{comma_role, comment_role, days_comma, first_role, holiday_role};
-ghost use Rattle.gtd_hours_holiday_rules.specs.Roles.{joined_role, kept_if, remark_role, role_in, role_of, separates, sign_role};
-ghost use Rattle.gtd_hours_holiday_rules.specs.Roles.{token_role, weekday_role};
+ghost use Rattle.gtd_hours_holiday_rules.specs.Roles.{bracket_role, colon_role, comma_role, comment_role, dash_role};
+ghost use Rattle.gtd_hours_holiday_rules.specs.Roles.{dates_comma, dates_go_on, days_comma, first_role, holiday_role};
+ghost use Rattle.gtd_hours_holiday_rules.specs.Roles.{joined_role, kept_if, number_role, remark_role, role_in, role_of};
+ghost use Rattle.gtd_hours_holiday_rules.specs.Roles.{separates, sign_role, token_role, weekday_role};
 
-use crate::behind::{Behind, Last, Position, is_commented};
+use crate::behind::{Behind, Last, Position, is_commented, is_faulty};
 use crate::coming::{
-    begins_holiday, begins_month_days, begins_number, begins_time, begins_weekday, begins_year,
-    leads,
+    begins_date, begins_dates, begins_holiday, begins_month, begins_month_days, begins_number,
+    begins_time, begins_weekday, begins_year, leads,
 };
 use crate::items::{Item, What};
 use crate::role::Role;
@@ -51,6 +52,7 @@ fn holiday_role(behind: Behind, last: Last, holiday: Listed, later: &[Item]) -> 
         Behind::Front => first_role(holiday, later),
         Behind::Years => first_role(holiday, later),
         Behind::MonthDays => first_role(holiday, later),
+        Behind::Moving { .. } => first_role(holiday, later),
         Behind::Weeks => first_role(holiday, later),
         Behind::Colon => first_role(holiday, later),
         Behind::Led { .. } => Role::Leading(holiday),
@@ -86,8 +88,31 @@ fn days_comma(weekdays: bool, later: &[Item]) -> Role
     }
 }
 
-fn comma_role(behind: Behind, later: &[Item]) -> Role
-    ensures { result ≡ comma_role behind later.now }
+// Whether month days go on behind a comma: directly behind a range that moves not with the number of a day.
+fn dates_go_on(last: Last, later: &[Item]) -> bool
+    ensures { result ≡ dates_go_on last later.now }
+{
+    match last {
+        Last::Dates => begins_date(later),
+        _ => begins_month_days(later),
+    }
+}
+
+// A comma behind a list of month days, with months or dates or without.
+fn dates_comma(beside: bool, last: Last, later: &[Item]) -> Role
+    ensures { result ≡ dates_comma beside last later.now }
+{
+    if begins_dates(later) {
+        Role::Unwritten
+    } else if dates_go_on(last, later) {
+        if beside { Role::Kept } else { Role::Unwritten }
+    } else {
+        Role::Begins(Link::Also)
+    }
+}
+
+fn comma_role(behind: Behind, last: Last, later: &[Item]) -> Role
+    ensures { result ≡ comma_role behind last later.now }
 {
     match behind {
         Behind::Led { .. } => Role::Gone,
@@ -95,7 +120,8 @@ fn comma_role(behind: Behind, later: &[Item]) -> Role
         Behind::Weekdays { .. } => days_comma(true, later),
         Behind::Mixed => days_comma(true, later),
         Behind::Years => kept_if(begins_year(later)),
-        Behind::MonthDays => kept_if(begins_month_days(later)),
+        Behind::MonthDays => dates_comma(true, last, later),
+        Behind::Moving { beside } => dates_comma(beside, last, later),
         Behind::Weeks => kept_if(begins_number(later)),
         Behind::Times => kept_if(begins_time(later)),
         Behind::Places { .. } => Role::Kept,
@@ -116,9 +142,9 @@ fn weekday_role(behind: Behind, last: Last) -> Role
     }
 }
 
-// A bracket or the sign of an offset: holidays have neither here.
-fn sign_role(behind: Behind) -> Role
-    ensures { result ≡ sign_role behind }
+// A bracket: holidays have none.
+fn bracket_role(behind: Behind) -> Role
+    ensures { result ≡ bracket_role behind }
 {
     match behind {
         Behind::Holidays => Role::Misfit,
@@ -127,16 +153,64 @@ fn sign_role(behind: Behind) -> Role
     }
 }
 
+// A sign: holidays have no more offsets here, and ranges that move have none.
+fn sign_role(behind: Behind, last: Last) -> Role
+    ensures { result ≡ sign_role behind last }
+{
+    match last {
+        Last::Dates => Role::Misfit,
+        _ => bracket_role(behind),
+    }
+}
+
+// A dash, which is the sign of an offset or goes on with a range: with none behind places, before a month.
+fn dash_role(behind: Behind, last: Last, later: &[Item]) -> Role
+    ensures { result ≡ dash_role behind last later.now }
+{
+    match last {
+        Last::Bracket => {
+            if begins_month(later) {
+                Role::Misfit
+            } else {
+                bracket_role(behind)
+            }
+        }
+        _ => sign_role(behind, last),
+    }
+}
+
+// A number: none stands directly behind a range that moves.
+fn number_role(last: Last) -> Role
+    ensures { result ≡ number_role last }
+{
+    match last {
+        Last::Dates => Role::Misfit,
+        _ => Role::Kept,
+    }
+}
+
+// A colon: the rule's own text has none behind ranges that move.
+fn colon_role(behind: Behind) -> Role
+    ensures { result ≡ colon_role behind }
+{
+    match behind {
+        Behind::Moving { .. } => Role::Unwritten,
+        _ => Role::Kept,
+    }
+}
+
 fn token_role(behind: Behind, last: Last, kind: TokenKind, later: &[Item]) -> Role
     ensures { result ≡ token_role behind last kind later.now }
 {
     match kind {
-        TokenKind::Comma => comma_role(behind, later),
+        TokenKind::Comma => comma_role(behind, last, later),
         TokenKind::Semicolon => Role::Begins(Link::Instead),
         TokenKind::Weekday(_) => weekday_role(behind, last),
-        TokenKind::OpenBracket => sign_role(behind),
-        TokenKind::Plus => sign_role(behind),
-        TokenKind::Dash => sign_role(behind),
+        TokenKind::OpenBracket => bracket_role(behind),
+        TokenKind::Plus => sign_role(behind, last),
+        TokenKind::Dash => dash_role(behind, last, later),
+        TokenKind::Number { .. } => number_role(last),
+        TokenKind::Colon => colon_role(behind),
         _ => Role::Kept,
     }
 }
@@ -169,6 +243,8 @@ fn role_in(position: Position, what: What, later: &[Item]) -> Role
     match what {
         What::Holiday(holiday) => holiday_role(position.behind, position.last, holiday, later),
         What::Token(kind) => token_role(position.behind, position.last, kind, later),
+        What::Dates(days) => Role::Dated(days),
+        What::NoDates(_) => Role::Undated,
         What::Comment => comment_role(position.behind, position.last),
         What::Fallback => Role::Fallback,
         What::Unknown => Role::UnknownWord,
@@ -191,7 +267,7 @@ fn separates(what: What) -> bool
 pub fn role_of(position: Position, item: Item, later: &[Item]) -> Role
     ensures { result ≡ role_of position item later.now }
 {
-    if is_commented(position.behind) && !separates(item.what) {
+    if is_faulty(position.last) || (is_commented(position.behind) && !separates(item.what)) {
         Role::Misfit
     } else {
         role_in(position, item.what, later)

@@ -2,13 +2,13 @@
 
 ghost use Rattle.std.specs.Prelude.{◌≡◌, ◌++◌, ◌∷◌, [], List, IfOk, OnOk, map};
 ghost use Rattle.gtd_hours_holiday_rules.specs.Rules.{all_rules, begun, ended, link_behind, rules_of, said_by};
-ghost use Rattle.gtd_hours_holiday_rules.specs.Rules.{with_holiday, with_item, with_text};
+ghost use Rattle.gtd_hours_holiday_rules.specs.Rules.{with_date, with_holiday, with_item, with_text};
 ghost use Rattle.gtd_hours_holiday_rules.specs.declared.parts.Part.{Part};
 
 use crate::items::{Item, stretch};
 use crate::parts::Part;
 use crate::role::Role;
-use gtd_hours::Link;
+use gtd_hours::{Link, Selector};
 use gtd_hours_days::Listed;
 use std::alloc::{AllocError, Global};
 use std::mem::replace;
@@ -18,7 +18,7 @@ use std::mem::replace;
 pub struct HolidayRule {
     /// How it stands to the rules before it.
     pub link: Link,
-    /// Its text without holidays: plain hours of one rule.
+    /// Its text without holidays and ranges of days that move: plain hours of one rule.
     pub text: Vec<u8>,
     /// Whether its holidays lead: then a day must be one of them as well as what the text says. Else it must be one of them or
     /// one of the text's weekdays.
@@ -27,6 +27,8 @@ pub struct HolidayRule {
     pub holidays: Vec<Listed>,
     /// Where each of them begins in the whole text.
     pub places: Vec<usize>,
+    /// Its ranges of days that move, from left to right: they are beside the month days of its text.
+    pub dates: Vec<Selector>,
     /// The number of bytes before the word or the comment that makes it unknown, if it is.
     pub unknown: Option<usize>,
     /// The number of bytes before a comment without a word that says that the rule is open, if it has one.
@@ -51,6 +53,7 @@ fn begun(alloc: Global, link: Link) -> HolidayRule
         is_led: false,
         holidays: Vec::new(alloc),
         places: Vec::new(alloc),
+        dates: Vec::new(alloc),
         unknown: None,
         remark: None,
     }
@@ -72,6 +75,13 @@ fn push_holiday(rule: &mut HolidayRule, holiday: Listed, place: usize) -> Result
     Ok(())
 }
 
+fn push_date(rule: &mut HolidayRule, days: Selector) -> Result<(), AllocError>
+    ensures { OnOk result (said_by rule.new ≡ with_date (said_by rule.old) days) }
+{
+    rule.dates.push(days)?;
+    Ok(())
+}
+
 // An item of which this becomes goes on with a rule.
 fn push_item(rule: &mut HolidayRule, text: &[u8], role: Role, item: Item) -> Result<(), AllocError>
     ensures { OnOk result (said_by rule.new ≡ with_item text.now (said_by rule.old) role item) }
@@ -83,6 +93,7 @@ fn push_item(rule: &mut HolidayRule, text: &[u8], role: Role, item: Item) -> Res
             push_holiday(rule, holiday, item.from)
         }
         Role::Listed(holiday) => push_holiday(rule, holiday, item.from),
+        Role::Dated(days) => push_date(rule, days),
         Role::UnknownWord => {
             rule.unknown = Some(item.from);
             Ok(())

@@ -1,9 +1,7 @@
 //! A text with holidays, comments, unknown and fallback rules as plain hours and what is said beside them.
 
 ghost use Rattle.std.specs.Prelude.{◌≡◌, IfErr, IfOk, length};
-ghost use Rattle.gtd_hours_holiday_rules.specs.Items.{items_of};
-ghost use Rattle.gtd_hours_holiday_rules.specs.Parts.{parts_of};
-ghost use Rattle.gtd_hours_holiday_rules.specs.Reading.{HasParts, IsHolidayText, IsNoHolidayText};
+ghost use Rattle.gtd_hours_holiday_rules.specs.Reading.{HasItems, HasParts, IsHolidayText, IsNoHolidayText};
 
 use crate::checked::checked_text;
 use crate::items::items_of;
@@ -42,7 +40,7 @@ fn with_parts(alloc: Global, text: &[u8], parts: &[Part]) -> Result<HolidayText,
 
 // The text of these tokens.
 fn with_tokens(alloc: Global, text: &[u8], tokens: &[Token]) -> Result<HolidayText, AllocError>
-    ensures { IfOk result (HasParts text.now (parts_of (items_of text.now tokens.now))) }
+    ensures { IfOk result (HasItems text.now tokens.now) }
 {
     let items = items_of(alloc, text, tokens)?;
     let parts = parts_of(alloc, items.as_slice())?;

@@ -2,9 +2,10 @@
 
 ghost use Rattle.std.specs.Prelude.{◌≡◌};
 ghost use Rattle.gtd_hours_holiday_rules.specs.Coming.{begins};
-ghost use Rattle.gtd_hours_holiday_rules.specs.Told.{begins_days, behind_first, commented_fault, fault_by, first_place};
-ghost use Rattle.gtd_hours_holiday_rules.specs.Told.{instead_of, is_day, is_foreign, is_public, is_sign, led_instead};
-ghost use Rattle.gtd_hours_holiday_rules.specs.Told.{misfit_fault, sign_fault, told_at, told_fault};
+ghost use Rattle.gtd_hours_holiday_rules.specs.Told.{begins_days, behind_first, fault_at, fault_by, fault_in_range};
+ghost use Rattle.gtd_hours_holiday_rules.specs.Told.{first_place, instead_of, is_dates, is_day, is_foreign, is_misfit};
+ghost use Rattle.gtd_hours_holiday_rules.specs.Told.{is_public, is_sign, kind_among, led_instead, misfit_fault, misfit_kind};
+ghost use Rattle.gtd_hours_holiday_rules.specs.Told.{plus_kind, sign_fault, told_at, told_fault, unfit_fault};
 
 use crate::behind::{Behind, Last, Position, is_commented};
 use crate::coming::{begins_weekday, is_number, is_weekday};
@@ -107,6 +108,15 @@ fn is_public(last: Last) -> bool
     }
 }
 
+fn is_dates(last: Last) -> bool
+    ensures { result ≡ is_dates last }
+{
+    match last {
+        Last::Dates => true,
+        _ => false,
+    }
+}
+
 // What is wrong at the sign of an offset that is none.
 fn sign_fault(last: Last, place: usize, later: &[Item]) -> HoursFault
     ensures { result ≡ sign_fault last place later.now }
@@ -140,9 +150,9 @@ fn is_foreign(what: What) -> bool
     }
 }
 
-// What is wrong at an item behind a comment on its rule.
-fn commented_fault(item: Item) -> HoursFault
-    ensures { result ≡ commented_fault item }
+// What is wrong at an item that nothing of its kind can follow: behind a comment on its rule, or a range that moves.
+fn fault_at(item: Item) -> HoursFault
+    ensures { result ≡ fault_at item }
 {
     if is_foreign(item.what) {
         HoursFault {
@@ -158,11 +168,11 @@ fn commented_fault(item: Item) -> HoursFault
 }
 
 // What is wrong at an item that cannot stand where it does.
-fn misfit_fault(position: Position, item: Item, later: &[Item]) -> HoursFault
-    ensures { result ≡ misfit_fault position item later.now }
+fn unfit_fault(position: Position, item: Item, later: &[Item]) -> HoursFault
+    ensures { result ≡ unfit_fault position item later.now }
 {
-    if is_commented(position.behind) {
-        commented_fault(item)
+    if is_commented(position.behind) || is_dates(position.last) {
+        fault_at(item)
     } else if is_sign(item.what) {
         sign_fault(position.last, item.from, later)
     } else {
@@ -170,6 +180,86 @@ fn misfit_fault(position: Position, item: Item, later: &[Item]) -> HoursFault
             kind: FaultKind::Unexpected,
             place: item.from,
         }
+    }
+}
+
+// What is wrong with a `+` that cannot stand behind an item.
+fn plus_kind(before: What) -> FaultKind
+    ensures { result ≡ plus_kind before }
+{
+    match before {
+        What::Token(TokenKind::Number { digits, .. }) => {
+            if digits == 4 {
+                FaultKind::Unexpected
+            } else {
+                FaultKind::Unsupported
+            }
+        }
+        What::Token(TokenKind::Weekday(_)) => FaultKind::Unexpected,
+        What::Token(TokenKind::Plus) => FaultKind::Unexpected,
+        _ => FaultKind::Unsupported,
+    }
+}
+
+// The same with any item: a token that a range of days does not go on with has this kind of fault.
+fn misfit_kind(before: What, what: What, kind: FaultKind) -> FaultKind
+    ensures { result ≡ misfit_kind before what kind }
+{
+    match what {
+        What::Token(TokenKind::Plus) => plus_kind(before),
+        What::Token(_) => kind,
+        _ => FaultKind::Unexpected,
+    }
+}
+
+// What is wrong with the item of this fault among these behind another.
+fn kind_among(before: What, bad: HoursFault, items: &[Item]) -> FaultKind
+    ensures { result ≡ kind_among before bad items.now }
+{
+    let mut last = before;
+    let mut rest = items;
+    while let Some((item, later)) = rest.split_first() {
+        if item.from == bad.place {
+            return misfit_kind(last, item.what, bad.kind);
+        }
+        last = item.what;
+        rest = later;
+    }
+    bad.kind
+}
+
+// Whether it is a token that cannot stand where it does.
+fn is_misfit(kind: FaultKind) -> bool
+    ensures { result ≡ is_misfit kind }
+{
+    match kind {
+        FaultKind::Unexpected => true,
+        FaultKind::Unsupported => true,
+        _ => false,
+    }
+}
+
+// What is wrong with a range of days whose first token comes directly before an item.
+fn fault_in_range(bad: HoursFault, item: Item, later: &[Item]) -> HoursFault
+    ensures { result ≡ fault_in_range bad item later.now }
+{
+    if is_misfit(bad.kind) {
+        HoursFault {
+            kind: kind_among(item.what, bad, later),
+            place: bad.place,
+        }
+    } else {
+        bad
+    }
+}
+
+// The same, or what is wrong with the range of days before it.
+fn misfit_fault(position: Position, item: Item, later: &[Item]) -> HoursFault
+    ensures { result ≡ misfit_fault position item later.now }
+{
+    match position.last {
+        Last::NoDates(bad) => fault_in_range(bad, item, later),
+        _ => unfit_fault(position, item, later),
     }
 }
 

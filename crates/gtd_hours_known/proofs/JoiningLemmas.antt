@@ -1,15 +1,7 @@
 -- The kinds of a rule with days of holidays.
 use Rattle.std.proofs.Common.{◌≡◌, ap, refl, Bool, List, [], ◌∷◌, ◌++◌}
-use Rattle.gtd_hours.specs.Writable.{selectors}
-use Rattle.gtd_hours.specs.declared.hours.Kind.{Kind}
 use Rattle.gtd_hours.specs.declared.hours.Selector.{Selector}
 use Rattle.gtd_hours_known.specs.Joining.{last_with, with_days}
-
--- one kind more
-pub kind_more : (kinds : List Kind) (kind : Kind)
-    → selectors (kinds ++ kind ∷ []) ≡ selectors kinds ++ kind.selectors.items ∷ []
-kind_more [] kind = refl
-kind_more (k ∷ kinds) kind = ap (λ (l : List (List Selector)). k.selectors.items ∷ l) (kind_more kinds kind)
 
 -- only the last kind changes
 pub days_last : (led : Bool) (days : List Selector) (kinds : List (List Selector)) (last : List Selector)

@@ -9,45 +9,8 @@ use Rattle.gtd_hours.specs.declared.hours.Kind.{Kind}
 use Rattle.gtd_hours.specs.declared.hours.Selector.{Selector}
 use Rattle.gtd_hours_known.specs.Joining.{has_weekdays, last_with, names_weekdays, with_days}
 use Rattle.gtd_hours_known.specs.Said.{EachHoldsOr, MatchesBy}
-use Rattle.gtd_hours_known.proofs.JoiningLemmas.{days_last, kind_more}
-
--- of each kind of selectors one holds
-abbrev pub EachOf : List (List Selector) → ℤ → DayFields → Type 0
-EachOf [] n f = Unit {0}
-EachOf (kind ∷ kinds) n f = SomeHolds kind n f × EachOf kinds n f
-
-each_of : (kinds : List Kind) (n : ℤ) (f : DayFields) → EachHolds kinds n f → EachOf (selectors kinds) n f
-each_of [] n f h = tt
-each_of (kind ∷ kinds) n f h = (h.0, each_of kinds n f h.1)
-
-each_holds : (kinds : List Kind) (n : ℤ) (f : DayFields) → EachOf (selectors kinds) n f → EachHolds kinds n f
-each_holds [] n f h = tt
-each_holds (kind ∷ kinds) n f h = (h.0, each_holds kinds n f h.1)
-
-some_append : (xs ys : List Selector) (n : ℤ) (f : DayFields)
-    → SomeHolds (xs ++ ys) n f ↔ (SomeHolds xs n f ⊎ SomeHolds ys n f)
-some_append [] ys n f = ((λ h. inr h), (λ h. elim h [ inl a ↦ absurd a | inr a ↦ a ]))
-some_append (x ∷ xs) ys n f =
-    let more = some_append xs ys n f in (
-      (λ h. elim h [
-        | inl a ↦ inl (inl a)
-        | inr a ↦ elim (more.0 a) [ inl b ↦ inl (inr b) | inr b ↦ inr b ]
-      ]),
-      (λ h. elim h [
-        | inl a ↦ elim a [ inl b ↦ inl b | inr b ↦ inr (more.1 (inl b)) ]
-        | inr a ↦ inr (more.1 (inr a))
-      ]),
-    )
-
--- the last of some kinds
-each_last : (kinds last : List (List Selector)) (n : ℤ) (f : DayFields)
-    → EachOf (kinds ++ last) n f ↔ (EachOf kinds n f × EachOf last n f)
-each_last [] last n f = ((λ h. (tt, h)), (λ h. h.1))
-each_last (kind ∷ kinds) last n f =
-    let more = each_last kinds last n f in (
-      (λ h. let p = more.0 h.1 in ((h.0, p.0), p.1)),
-      (λ h. (h.0.0, more.1 (h.0.1, h.1))),
-    )
+use Rattle.gtd_hours_dated.specs.facts.KindFacts.{EachOf, each_append, each_holds, each_of, kind_more, some_append}
+use Rattle.gtd_hours_known.proofs.JoiningLemmas.{days_last}
 
 -- ---- days as a kind of their own
 
@@ -116,7 +79,7 @@ joined_matches IsDay days rule made others weekdays split e are is n =
       (λ h.
           let f = h.0 in
           let all = subst (λ (l : List (List Selector)). EachOf l n f) same (each_of made n f h.2) in
-          let both = (each_last (selectors others) last n f).0 all in
+          let both = (each_append (selectors others) last n f).0 all in
           let some = (some_append weekdays.selectors.items days n f).0 both.1.0 in (
             f,
             h.1,
@@ -127,7 +90,7 @@ joined_matches IsDay days rule made others weekdays split e are is n =
           let f = h.0 in
           let some = (some_append weekdays.selectors.items days n f).1
           (elim (h.3) [ inl a ↦ inl a | inr a ↦ inr ((is n f).1 a) ]) in
-          let all = (each_last (selectors others) last n f).1 (each_of others n f h.2, (some, tt)) in
+          let all = (each_append (selectors others) last n f).1 (each_of others n f h.2, (some, tt)) in
           (f, h.1, each_holds made n f (subst (λ (l : List (List Selector)). EachOf l n f) (sym same) all))),
     )
 

@@ -10,8 +10,8 @@ use Rattle.gtd_hours.specs.declared.hours.Modifier.{Modifier}
 use Rattle.gtd_hours.specs.declared.hours.Modifier.TheVariants.{Closed, Open}
 use Rattle.gtd_hours.specs.declared.hours.Rule.{Rule}
 use Rattle.gtd_hours.specs.declared.hours.Selector.{Selector}
-use Rattle.gtd_hours_text.specs.Standing.{StandsFor}
-use Rattle.gtd_hours_text.specs.facts.OneMeaning.{same_rules}
+use Rattle.gtd_hours_dated.specs.Dated.{IsDatedHours}
+use Rattle.gtd_hours_dated.specs.facts.SameDated.{dated_rules}
 use Rattle.gtd_hours_text.specs.facts.SameRules.{SameRule, SameRules}
 use Rattle.gtd_hours_holiday_rules.specs.declared.rules.HolidayRule.{HolidayRule}
 use Rattle.gtd_hours_holiday_rules.specs.declared.text.HolidayText.{HolidayText}
@@ -168,11 +168,11 @@ one_of rule [] same = absurd same
 one_of rule (one ∷ []) same = record { one = one; is = refl; same = same.0 }
 one_of rule (one ∷ more ∷ rules) same = absurd same.1
 
-own_one : (from : HolidayRule) (rule : Rule) (hours : Hours) → IsOwnRule from rule → StandsFor from.text.items hours
-    → IsOne rule hours.rules.items
+own_one : (from : HolidayRule) (rule : Rule) (hours : Hours) → IsOwnRule from rule
+    → IsDatedHours from.text.items from.dates.items hours → IsOne rule hours.rules.items
 own_one from rule hours own stands =
     one_of rule hours.rules.items (subst (λ (l : List Rule). SameRules l hours.rules.items) own.2
-    (same_rules from.text.items own.0 hours own.1 stands))
+    (dated_rules from.text.items from.dates.items own.0 hours own.1 stands))
 
 -- what the rule says that stands there is what its own rule says
 same_open : (u : Bool) (m n : Modifier) (l : Link) (S S' T T' P O C D : Type 0) → n ≡ m → (S ↔ S') → (T ↔ T') → (P ↔ O)

@@ -7,7 +7,7 @@ use Rattle.gtd_hours.specs.declared.hours.Rule.{Rule}
 use Rattle.gtd_hours.specs.declared.hours.Selector.{Selector}
 use Rattle.gtd_hours_grammar.specs.Faults.{IsFirstFault}
 use Rattle.gtd_hours_grammar.specs.declared.fault.HoursFault.{HoursFault}
-use Rattle.gtd_hours_text.specs.Standing.{StandsFor}
+use Rattle.gtd_hours_dated.specs.Dated.{IsDatedHours}
 use Rattle.gtd_hours_days.specs.Listed.{CoversAll, IsUncovered}
 use Rattle.gtd_hours_days.specs.declared.listed.Listed.{Listed}
 use Rattle.gtd_hours_days.specs.declared.selection.ListedFault.{ListedFault}
@@ -92,12 +92,12 @@ abbrev pub AreSpoken : Bool → HolidayRule → List Selector → List Rule → 
 AreSpoken true from days plain made = made ≡ []
 AreSpoken false from days plain made = AreWithHolidays from days plain made
 
--- What a rule of the text stands for, if it says something: the rule of its own text (there is one) with its link and, on the
--- days that the table has for them in the years, its holidays.
+-- What a rule of the text stands for, if it says something: the rule of its own text (there is one) and its other month days,
+-- with its link and, on the days that the table has for them in the years, its holidays.
 pub record IsHolidayRule (known : Known) (from : HolidayRule) (made : List Rule) : Type 0 where
   pub plain : Hours
   pub days : List Selector
-  pub stands : StandsFor from.text.items plain
+  pub stands : IsDatedHours from.text.items from.dates.items plain
   pub listed : AreGivenDays known from.holidays.items days
   pub are : AreSpoken (is_some from.unknown) from days plain.rules.items made
 

@@ -13,7 +13,7 @@ use Rattle.gtd_hours.specs.declared.hours.Link.TheVariants.{Also, Fallback, Inst
 use Rattle.gtd_hours.specs.declared.hours.Modifier.{Modifier}
 use Rattle.gtd_hours.specs.declared.hours.Modifier.TheVariants.{Closed, Open}
 use Rattle.gtd_hours.specs.declared.hours.Rule.{Rule}
-use Rattle.gtd_hours_text.specs.Standing.{StandsFor}
+use Rattle.gtd_hours_dated.specs.Dated.{IsDatedHours}
 use Rattle.gtd_hours_days.specs.Listed.{SomeListed}
 use Rattle.gtd_hours_days.specs.declared.listed.Listed.{Listed}
 use Rattle.gtd_hours_holidays.specs.declared.holidays.Holidays.{Holidays}
@@ -97,9 +97,10 @@ ClosedAfter known from rule WasOpen WasClosed s =
 
 -- ---- what all rules say
 
--- The own text of a rule stands for this one.
+-- The own text of a rule and its other month days stand for this one.
 abbrev pub IsOwnRule : HolidayRule → Rule → Type 0
-IsOwnRule from rule = (hours : Hours) × StandsFor from.text.items hours × (hours.rules.items ≡ rule ∷ [])
+IsOwnRule from rule =
+    (hours : Hours) × IsDatedHours from.text.items from.dates.items hours × (hours.rules.items ≡ rule ∷ [])
 
 -- and so for each rule
 abbrev pub AreOwnRules : List HolidayRule → List Rule → Type 0

@@ -6,6 +6,7 @@ ghost use Rattle.gtd_hours_known.specs.Joining.{IsWithDays, is_of_week, last_wit
 ghost use Rattle.gtd_hours_known.specs.Joining.{with_days as kinds_with_days};
 
 use gtd_hours::{Kind, Link, Rule, Selector};
+use gtd_hours_dated::{joined, kind_of, with_one, with_two};
 use std::alloc::{AllocError, Global};
 
 // Whether a selector is one of weekdays.
@@ -29,42 +30,6 @@ fn names_weekdays(kind: &[Selector]) -> bool
         Some((first, _)) => is_of_week(*first),
         None => false,
     }
-}
-
-// A kind of these selectors.
-fn kind_of(alloc: Global, days: &[Selector]) -> Result<Kind, AllocError>
-    ensures { IfOk result (λ kind. kind.selectors.items ≡ days.now) }
-{
-    let mut selectors = Vec::new(alloc);
-    selectors.extend_from_slice(days)?;
-    Ok(Kind { selectors })
-}
-
-// A kind with more selectors.
-fn joined(kind: Kind, days: &[Selector]) -> Result<Kind, AllocError>
-    ensures { IfOk result (λ then. then.selectors.items ≡ kind.selectors.items ++ days.now) }
-{
-    let mut selectors = kind.selectors;
-    selectors.extend_from_slice(days)?;
-    Ok(Kind { selectors })
-}
-
-// Kinds, and one more.
-fn with_one(list: Vec<Kind>, kind: Kind) -> Result<Vec<Kind>, AllocError>
-    ensures { IfOk result (λ then. selectors then.items ≡ selectors list.items ++ kind.selectors.items ∷ []) }
-{
-    let mut kinds = list;
-    kinds.push(kind)?;
-    Ok(kinds)
-}
-
-// Kinds, and two more.
-fn with_two(list: Vec<Kind>, first: Kind, second: Kind) -> Result<Vec<Kind>, AllocError>
-    ensures { IfOk result (λ then. selectors then.items
-        ≡ selectors list.items ++ first.selectors.items ∷ second.selectors.items ∷ []) }
-{
-    let kinds = with_one(list, first)?;
-    with_one(kinds, second)
 }
 
 // Kinds, and the last one with days of holidays.

@@ -10,16 +10,17 @@ ghost use Rattle.gtd_hours_known.specs.Given.{AreAllGiven, none_given};
 ghost use Rattle.gtd_hours_known.specs.Rules.{AreAllStrict, AreGivenDays, AreHolidayRules, AreSpoken, AreWithHolidays};
 ghost use Rattle.gtd_hours_known.specs.Rules.{HasHolidays, IsDaysStop, IsHolidayRule, IsRuleStop, IsRulesStop, IsStopAt};
 ghost use Rattle.gtd_hours_known.specs.declared.rules.RulesStop.TheVariants as stop;
-ghost use Rattle.gtd_hours_text.specs.Standing.{StandsFor};
+ghost use Rattle.gtd_hours_dated.specs.Dated.{IsDatedHours};
 
 use crate::joining::with_days;
 use crate::known::Known;
 use crate::selectors::listed_selectors;
 use gtd_hours::{Hours, Rule, Selector};
+use gtd_hours_dated::read_dated_hours;
 use gtd_hours_days::ListedFault;
 use gtd_hours_holiday_rules::HolidayRule;
 use gtd_hours_holidays::{Holidays, KnownYears};
-use gtd_hours_text::{HoursTextFault, read_hours};
+use gtd_hours_text::HoursTextFault;
 use std::alloc::{AllocError, Global};
 
 /// Why rules with holidays have no hours.
@@ -47,13 +48,13 @@ impl From<AllocError> for RulesStop {
     }
 }
 
-// The hours that the own text of a rule stands for.
-fn plain_hours(alloc: Global, text: &[u8]) -> Result<Hours, RulesStop>
+// The hours that the own text of a rule stands for, with its other month days.
+fn plain_hours(alloc: Global, text: &[u8], dates: &[Selector]) -> Result<Hours, RulesStop>
     requires { IsStrict text.now }
-    ensures hours { IfOk result (λ hours. StandsFor text.now hours) }
+    ensures hours { IfOk result (λ hours. IsDatedHours text.now dates.now hours) }
     ensures stop { IfErr result (λ why. why ≡ stop.NoMemory) }
 {
-    match read_hours(alloc, text) {
+    match read_dated_hours(alloc, text, dates) {
         Ok(hours) => Ok(hours),
         Err(why) => match why {
             HoursTextFault::NoMemory => Err(RulesStop::NoMemory),
@@ -183,7 +184,7 @@ fn rules_of(alloc: Global, from: &HolidayRule, known: &Known) -> Result<Vec<Rule
     ensures rules { IfOk result (λ made. IsHolidayRule known.now from.now made.items) }
     ensures stop { IfErr result (IsRuleStop known.now from.now) }
 {
-    let plain = plain_hours(alloc, from.text.as_slice())?;
+    let plain = plain_hours(alloc, from.text.as_slice(), from.dates.as_slice())?;
     let days = holiday_days(alloc, from, known)?;
     let made = spoken(alloc, from, plain.rules, days.as_slice())?;
     Ok(made)

@@ -296,6 +296,10 @@ rules_text_same (x ∷ xs) (y ∷ ys) same =
     let rest = more_rules_text_same xs ys same.1 in
     λ i. rule i ++ rest i
 
+-- and are written the same
+pub same_text : (one other : Hours) → SameRules one.rules.items other.rules.items → hours_text one ≡ hours_text other
+same_text one other same = rules_text_same one.rules.items other.rules.items same
+
 pub one_text : (text : List ℕ) (one other : Hours) → StandsFor text one → StandsFor text other
     → hours_text one ≡ hours_text other
-one_text text one other h k = rules_text_same one.rules.items other.rules.items (same_rules text one other h k)
+one_text text one other h k = same_text one other (same_rules text one other h k)

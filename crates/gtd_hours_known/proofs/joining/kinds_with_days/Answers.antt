@@ -3,7 +3,8 @@ use Rattle.std.proofs.Common.{◌≡◌, ◌∙◌, ◌++◌, ap, List}
 use Rattle.gtd_hours.specs.Writable.{selectors}
 use Rattle.gtd_hours.specs.declared.hours.Selector.{Selector}
 use Rattle.gtd_hours_known.specs.Joining.{last_with, with_days}
-use Rattle.gtd_hours_known.proofs.JoiningLemmas.{days_last, kind_more}
+use Rattle.gtd_hours_dated.specs.facts.KindFacts.{kind_more}
+use Rattle.gtd_hours_known.proofs.JoiningLemmas.{days_last}
 use Rattle.gtd_hours_known.proofs.joining.kinds_with_days.Goals as goal
 
 pub returns-in-Some : goal.returns-in-Some

@@ -5,7 +5,7 @@ pub returns-clause-rules : goal.returns-clause-rules
 returns-clause-rules c = record {
   plain = c.in_ok-plain.plain;
   days = c.in_ok-days.days.items;
-  stands = rw c.as_slice.ensures.value at c.in_ok-plain.ensures.hours;
+  stands = rw (c.as_slice.ensures.value, c.as_slice-2.ensures.value) at c.in_ok-plain.ensures.hours;
   listed = c.in_ok-days.ensures.days;
-  are = rw c.as_slice-2.ensures.value at c.in_ok-made.ensures;
+  are = rw c.as_slice-3.ensures.value at c.in_ok-made.ensures;
 }

@@ -1,0 +1,2 @@
+pub mod SameDated
+pub mod KindFacts

@@ -1,0 +1,3 @@
+pub mod SameDays
+pub mod OneFront
+pub mod FirstTokens

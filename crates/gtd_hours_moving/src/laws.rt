@@ -1,0 +1,23 @@
+//! Laws of the definitions: calls that do nothing, whose contracts are what is proved.
+
+ghost use Rattle.std.specs.Prelude.{◌≡◌, ℕ, ◌+◌, ◌++◌, ◌∷◌, List, length, Option, Some};
+ghost use Rattle.gtd_hours.specs.declared.hours.Selector.{Selector};
+ghost use Rattle.gtd_hours_moving.specs.Moving.{IsMovingFront};
+ghost use Rattle.gtd_hours_moving.specs.declared.front.MovingFront.{MovingFront};
+ghost use Rattle.gtd_hours_moving.specs.declared.front.MovingFront.TheVariants as front;
+ghost use Rattle.gtd_hours_tokens.specs.declared.token.Token.{Token};
+
+/// Tokens begin with one range of days that moves, or with one that has one fault, or with none. The order of a range says
+/// whether it goes over the end of the year, and an end has one day in a year, so its days are one selector.
+pub fn one_moving_front()
+    ensures { (tokens : List Token) (end : ℕ) (one other : Option MovingFront) →
+        IsMovingFront tokens end one → IsMovingFront tokens end other → one ≡ other }
+{}
+
+/// A range is the first tokens, so many, and ends where the last of them does.
+pub fn first_tokens()
+    ensures { (tokens : List Token) (end : ℕ) (days : Selector) (count to : ℕ) →
+        IsMovingFront tokens end (Some (front.Range days count to)) →
+        (before after : List Token) × (last : Token)
+        × (tokens ≡ before ++ last ∷ after) × (length before + 1 ≡ count) × (last.to ≡ to) }
+{}

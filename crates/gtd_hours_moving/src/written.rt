@@ -1,0 +1,68 @@
+//! Ranges as they are written: the numbers of their tokens.
+
+use gtd_hours_tokens::Token;
+
+/// A place of a weekday in a month: `Mar Su[-1]`.
+#[derive(Clone, Copy)]
+pub struct WrittenPlace {
+    /// The month, 1 to 12.
+    pub month: u8,
+    /// The weekday, 1 for Sunday to 7 for Saturday.
+    pub weekday: u8,
+    /// Which of these weekdays of the month it is, 1 to 4.
+    pub number: u8,
+    /// Whether it is counted back from the end of the month.
+    pub is_back: bool,
+}
+
+/// An end of a range.
+#[derive(Clone, Copy)]
+pub enum WrittenEnd {
+    /// `Oct 15`
+    Day {
+        /// The month, 1 to 12.
+        month: u8,
+        /// The day of the month.
+        day: u8,
+    },
+    /// `Mar Su[-1] +1 day`
+    Place {
+        /// The place of the weekday.
+        place: WrittenPlace,
+        /// How many days after or before it: 1 to 27, or 0 if there is no offset.
+        days: u8,
+        /// Whether the days are before it.
+        is_before: bool,
+    },
+}
+
+/// An end that has been read.
+#[derive(Clone, Copy)]
+pub struct ReadEnd {
+    /// The end.
+    pub end: WrittenEnd,
+    /// Its last token.
+    pub last: Token,
+}
+
+/// A range.
+#[derive(Clone, Copy)]
+pub struct WrittenRange {
+    /// The year before the first end.
+    pub year: Option<u16>,
+    /// The first end.
+    pub first: WrittenEnd,
+    /// The year before the last end.
+    pub last_year: Option<u16>,
+    /// The last end.
+    pub last: WrittenEnd,
+}
+
+/// A range that has been read.
+#[derive(Clone, Copy)]
+pub struct ReadRange {
+    /// The range.
+    pub range: WrittenRange,
+    /// Its last token.
+    pub last: Token,
+}
