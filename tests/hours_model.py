@@ -86,6 +86,7 @@ def tokens(text):
 
 class Reader:
     """A reader that recurs over the grammar's rules and stops at the first token that fits nowhere."""
+    DATES = ("month", "number")
 
     def __init__(self, found, end):
         self.found, self.end, self.at = found, end, 0
@@ -172,7 +173,7 @@ class Reader:
         kinds, times = {}, []
         if self.peek() == "number" and not self.is_dated():
             kinds["years"] = self.listed(self.years, lambda: self.is_year(1))
-        if self.peek() in ("month", "number"):
+        if self.peek() in self.DATES:
             kinds["month days"] = self.month_days()
         if self.goes("week"):
             kinds["weeks"] = self.listed(self.weeks, lambda: self.peek(1) == "number")
@@ -241,13 +242,14 @@ class Reader:
         """Months and dates. Behind a date go on days of the month and the year of the last one, but `24/7` is another rule."""
         items = self.month_day()
         while self.peek() == ",":
-            dated = "months" not in items[-1] and self.peek(1) == "number" and not self.is_year(1)
+            dated = items[-1][0] in ("dates", "dated") and "months" not in items[-1]
+            dated = dated and self.peek(1) == "number" and not self.is_year(1)
             if dated and (self.peek(2) != "/" or self.text(1) != "24"):
                 self.take(",")
                 last = items[-1][2]
                 year, month = (None, last[0]) if items[-1][0] == "dates" else (last.year, last.month)
                 items += self.dates(year, month)
-            elif self.peek(1) == "month" or self.is_year(1):
+            elif self.peek(1) in self.DATES and (self.peek(1) != "number" or self.is_year(1)):
                 self.take(",")
                 items += self.month_day()
             else:

@@ -12,11 +12,11 @@ import hours_model
 from hours_model import Fault, Token
 
 MOST_DAYS = 366
-HOLIDAYS = ("PH", "SH")
+HOLIDAYS = ("PH", "SH", "easter")
 
 
 class Holiday(NamedTuple):
-    """A holiday of a rule: `PH` or `SH`, how many days after it, and its place in the text."""
+    """A holiday of a rule: `PH`, `SH` or `easter`, how many days after it, and its place in the text."""
     kind: str
     offset: int
     place: int
@@ -39,14 +39,21 @@ def with_holidays(plain):
         if token.text not in HOLIDAYS:
             found.append(token)
             continue
+        before = found[-1].kind if found else None
         kinds = [other.kind for other in plain[:3]]
         offset = 0
-        if token.text == "PH" and kinds[:1] in (["+"], ["-"]) and kinds[1:] == ["number", "day"]:
+        if token.text != "SH" and kinds[:1] in (["+"], ["-"]) and kinds[1:] == ["number", "day"]:
             digits = plain[1].text
             if len(digits) <= 3 and 1 <= int(digits) <= MOST_DAYS:
                 offset = int(digits) if kinds[0] == "+" else -int(digits)
                 plain = plain[3:]
-        found.append(Token("holiday", Holiday(token.text, offset, token.place), token.place))
+        holiday = Holiday(token.text, offset, token.place)
+        if token.text != "easter":
+            found.append(Token("holiday", holiday, token.place))
+        elif before in ("number", "+", "-") or plain and plain[0].kind == "-":
+            found.append(Token("not read", "easter", token.place))
+        else:
+            found.append(Token("easter", holiday, token.place))
     return found
 
 
@@ -55,9 +62,11 @@ class Reader(hours_model.Reader):
 
     def refuse(self):
         """What is wrong with an offset behind a holiday is told at its number or its weekday."""
+        if self.peek() == "easter":
+            raise Fault("Unsupported", self.found[self.at].place)
         last = self.found[self.at - 1] if self.at else None
-        if last and last.kind == "holiday" and self.peek() in ("+", "-"):
-            if last.text.kind == "PH":
+        if last and last.kind in ("holiday", "easter") and self.peek() in ("+", "-"):
+            if last.text.kind != "SH":
                 if self.peek(1) == "number" and self.peek(2) == "day":
                     raise Fault("Range", self.found[self.at + 1].place)
                 if self.peek(1) == "weekday":
@@ -88,7 +97,11 @@ class Reader(hours_model.Reader):
     def is_dated(self):
         return super().is_dated() or self.is_year(0) and self.is_moving(1, True)
 
+    DATES = ("month", "number", "easter")
+
     def month_day(self):
+        if self.peek() == "easter":
+            return [self.take("easter")]
         dated = self.peek() == "number"
         if not self.is_moving(1 if dated else 0, dated):
             return super().month_day()
@@ -189,15 +202,27 @@ def read(text, table, years):
     placed = [[item for items in rule.kinds.values() for item in items if isinstance(item, Holiday)] for rule in rules]
     placed = [item for items in placed for item in items]
     for item in placed:
-        if table is None or (item.kind, True) not in {row[2:] for row in table}:
+        if is_uncovered(item, table):
             raise Fault("Holidays", item.place)
         if years is None:
             raise Fault("Years", item.place)
     for item in placed:
-        day = holidays_model.first_uncovered(table, item.kind, *years)
+        day = None if item.kind == "easter" else holidays_model.first_uncovered(table, item.kind, *years)
         if day is not None:
             raise Uncovered(item.place, day)
     return [rule._replace(kinds={kind: known(items, table, years) for kind, items in rule.kinds.items()}) for rule in rules]
+
+
+def is_uncovered(item, table):
+    """Whether a table is needed for a holiday, and there is none or it covers no day of the kind."""
+    return item.kind != "easter" and (table is None or (item.kind, True) not in {row[2:] for row in table})
+
+
+def days_in(item, table, years):
+    """The days of the years for a holiday."""
+    if item.kind == "easter":
+        return holidays_model.listed([], f"easter {item.offset}", *years)
+    return holidays_model.holidays(table, item.kind, item.offset, *years)
 
 
 def known(items, table, years):
@@ -205,6 +230,6 @@ def known(items, table, years):
     days = set()
     for item in items:
         if isinstance(item, Holiday):
-            days |= holidays_model.holidays(table, item.kind, item.offset, *years)
+            days |= days_in(item, table, years)
     runs = [("dated", holidays_model.date(first), holidays_model.date(last)) for first, last in holidays_model.runs_of(days)]
     return [item for item in items if not isinstance(item, Holiday)] + runs

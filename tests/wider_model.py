@@ -114,7 +114,7 @@ def needs(rules, table, years, options):
     """What is missing, at its place: the first is the fault. Of a range, what is missing first is told."""
     for at, rule in enumerate(rules):
         for item in holidays_in(rule):
-            if table is None or (item.kind, True) not in {row[2:] for row in table}:
+            if known_model.is_uncovered(item, table):
                 yield item.place, "Holidays"
             elif years is None:
                 yield item.place, "Years"
@@ -139,7 +139,7 @@ def read(text, table, years, options):
     rules = [rule._replace(times=[pair for item in rule.times for pair in ranges(item, options)]) for rule in rules]
     for rule in rules:
         for item in holidays_in(rule):
-            day = holidays_model.first_uncovered(table, item.kind, *years)
+            day = None if item.kind == "easter" else holidays_model.first_uncovered(table, item.kind, *years)
             if day is not None:
                 raise Uncovered(item.place, day)
     return [rule._replace(kinds={kind: known_model.known(items, table, years) for kind, items in rule.kinds.items()})
@@ -154,7 +154,7 @@ def first_holiday(text):
     """The place of the first holiday of a text that is no plain hours, or None."""
     if plain(text) is not None:
         return None
-    return next((token.place for token in tokens(text) if token.kind == "holiday"), None)
+    return next((token.place for token in tokens(text) if token.kind in ("holiday", "easter")), None)
 
 
 def warnings(text, rules, years):

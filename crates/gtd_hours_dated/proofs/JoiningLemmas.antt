@@ -1,14 +1,12 @@
 -- The kinds of a rule with more month days, one after another.
-use Rattle.std.proofs.Common.{◌≡◌, ◌∙◌, ◌==◌, ap, refl, sym, if◌then◌else◌, Bool, true, false, ℕ, List, [], ◌∷◌, ◌++◌}
-use Rattle.std.proofs.Common.{append_assoc, length}
+use Rattle.std.proofs.Common.{◌≡◌, ◌∙◌, ap, refl, sym, if◌then◌else◌, Bool, true, false, List, [], ◌∷◌, ◌++◌}
+use Rattle.std.proofs.Common.{append_assoc}
 use Rattle.std.specs.Prelude.{not}
 use Rattle.gtd_hours.specs.Writable.{selectors}
-use Rattle.gtd_hours.specs.declared.hours.Hours.{Hours}
 use Rattle.gtd_hours.specs.declared.hours.Kind.{Kind}
 use Rattle.gtd_hours.specs.declared.hours.Rule.{Rule}
 use Rattle.gtd_hours.specs.declared.hours.Selector.{Selector}
-use Rattle.gtd_hours_text.specs.Standing.{StandsFor}
-use Rattle.gtd_hours_dated.specs.Dated.{AreDatedRules, IsDatedHours, IsDatedRule, is_placed, kind_with, kinds_left}
+use Rattle.gtd_hours_dated.specs.Dated.{AreDatedRules, IsDatedRule, is_placed, kind_with, kinds_left}
 use Rattle.gtd_hours_dated.specs.Dated.{names_month_days, names_years, with_dates}
 use Rattle.gtd_hours_dated.specs.facts.KindFacts.{kind_more}
 
@@ -45,12 +43,6 @@ so_far_more placed dates past made next kind so_far e = λ rest.
     ∙ ap (λ (l : List (List Selector)). l ++ left) (sym e)
 
 -- ---- rules
-
--- hours of rules with some month days
-pub with_some : (text : List ℕ) (dates : List Selector) (plain made : Hours) → false ≡ (length dates == 0)
-    → StandsFor text plain → AreDatedRules dates plain.rules.items made.rules.items → IsDatedHours text dates made
-with_some text [] plain made some stands are = absurd cc
-with_some text (d ∷ dates) plain made some stands are = (plain, stands, are)
 
 -- one rule more has the month days
 pub dated_more : (dates : List Selector) (plain made : List Rule) (p m : Rule) → AreDatedRules dates plain made

@@ -1,5 +1,6 @@
 -- Plain hours with more month days, such as ranges that move from year to year.
 use Rattle.std.specs.Prelude.{◌≡◌, ◌||◌, ℕ, Bool, true, false, if◌then◌else◌, not, List, [], ◌∷◌, ◌++◌}
+use Rattle.std.specs.Prelude.{Option, Some, None}
 use Rattle.gtd_hours.specs.Writable.{is_years, selectors}
 use Rattle.gtd_hours.specs.declared.hours.Hours.{Hours}
 use Rattle.gtd_hours.specs.declared.hours.Rule.{Rule}
@@ -51,11 +52,11 @@ AreDatedRules dates [] [] = Unit {0}
 AreDatedRules dates (p ∷ plain) (m ∷ made) = IsDatedRule dates p m × AreDatedRules dates plain made
 AreDatedRules dates plain made = ⊥
 
--- The text stands for these hours, where each of its rules has more month days, if there are any.
-abbrev pub IsDatedHours : List ℕ → List Selector → Hours → Type 0
-IsDatedHours text [] hours = StandsFor text hours
-IsDatedHours text (d ∷ dates) hours =
-    (plain : Hours) × StandsFor text plain × AreDatedRules (d ∷ dates) plain.rules.items hours.rules.items
+-- The text stands for these hours, where each of its rules has more month days, if some are given: these may be no days at all.
+abbrev pub IsDatedHours : List ℕ → Option (List Selector) → Hours → Type 0
+IsDatedHours text None hours = StandsFor text hours
+IsDatedHours text (Some dates) hours =
+    (plain : Hours) × StandsFor text plain × AreDatedRules dates plain.rules.items hours.rules.items
 
 -- ---- as the code computes it
 

@@ -1,6 +1,6 @@
 //! Laws of the definitions: calls that do nothing, whose contracts are what is proved.
 
-ghost use Rattle.std.specs.Prelude.{◌≡◌, ◌↔◌, ◌⊎◌, ◌∷◌, ◌++◌, true, false, List, ℕ, ℤ};
+ghost use Rattle.std.specs.Prelude.{◌≡◌, ◌↔◌, ◌⊎◌, ◌∷◌, ◌++◌, true, false, List, Option, ℕ, ℤ};
 ghost use Rattle.std.specs.List.{list_all};
 ghost use Rattle.gtd_calendar.specs.Calendar.{AreFieldsOf};
 ghost use Rattle.gtd_calendar.specs.declared.day.DayFields.{DayFields};
@@ -31,10 +31,10 @@ pub fn days_of_dates()
 /// Hours that a text stands for with the same month days are open at the same seconds, whichever of them are taken; they take
 /// as many basic domains, and are written the same.
 pub fn one_meaning()
-    ensures open { (text : List ℕ) (dates : List Selector) (one other : Hours) → IsDatedHours text dates one
+    ensures open { (text : List ℕ) (dates : Option (List Selector)) (one other : Hours) → IsDatedHours text dates one
         → IsDatedHours text dates other → (s : ℤ) → IsOpen one s ↔ IsOpen other s }
-    ensures cost { (text : List ℕ) (dates : List Selector) (one other : Hours) → IsDatedHours text dates one
+    ensures cost { (text : List ℕ) (dates : Option (List Selector)) (one other : Hours) → IsDatedHours text dates one
         → IsDatedHours text dates other → hours_cost one ≡ hours_cost other }
-    ensures written { (text : List ℕ) (dates : List Selector) (one other : Hours) → IsDatedHours text dates one
+    ensures written { (text : List ℕ) (dates : Option (List Selector)) (one other : Hours) → IsDatedHours text dates one
         → IsDatedHours text dates other → hours_text one ≡ hours_text other }
 {}

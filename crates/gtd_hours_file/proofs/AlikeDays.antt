@@ -81,8 +81,8 @@ made_alike known x ds es a b m n given also same p q =
           (same_spans known x b n s other);
       match = λ s. both_ways _ _ _ _ (same_match known x a m s one) (match_of_same known x a b s same)
           (same_match known x b n s other);
-      cost = any_cost x.holidays.items x.is_led x.link ds es a b m n (one_list known x.holidays.items ds es given also).1
-          same.kinds p q;
+      cost = any_cost x.holidays.items x.is_led x.link ds es a b m n
+          (ap selectors_cost (one_list known x.holidays.items ds es given also)) same.kinds p q;
       times = ap (λ (t : _). t.items) one.times ∙ same.times ∙ sym (ap (λ (t : _). t.items) other.times);
       modifier = one.modifier ∙ same.modifier ∙ sym other.modifier;
       link = one.link ∙ sym other.link;

@@ -5,6 +5,7 @@ use Rattle.std.proofs.lemmas.Int.{by_lt_z}
 use Rattle.std.specs.Prelude.{◌&&◌, ◌||◌, if◌then◌else◌, get_or, is_some, not, Option, Some, None}
 use Rattle.gtd_calendar.specs.facts.Signed.{signed_arith}
 use Rattle.gtd_hours.specs.Writable.{is_fallback}
+use Rattle.gtd_hours.specs.declared.hours.Hours.{Hours}
 use Rattle.gtd_hours.specs.declared.hours.Rule.{Rule}
 use Rattle.gtd_hours.specs.declared.hours.Selector.{Selector}
 use Rattle.gtd_hours_days.specs.Listed.{CoversAll, CoversYears, IsFirstUncovered, IsUncovered, kind_of}
@@ -16,14 +17,15 @@ use Rattle.gtd_hours_holidays.specs.declared.row.HolidayKind.{HolidayKind}
 use Rattle.gtd_hours_holidays.specs.declared.row.HolidayRow.{HolidayRow}
 use Rattle.gtd_hours_holiday_rules.specs.Rules.{Said, said_by}
 use Rattle.gtd_hours_holiday_rules.specs.declared.rules.HolidayRule.{HolidayRule}
-use Rattle.gtd_hours_known.specs.Given.{none_given, or_later}
+use Rattle.gtd_hours_known.specs.Easter.{AreEasterDays, IsOwnHours, more_days}
+use Rattle.gtd_hours_known.specs.Given.{no_easter_years, none_given, or_later}
 use Rattle.gtd_hours_known.specs.Needs.{first_need, need_of, not_known, some_falls_back}
 use Rattle.gtd_hours_known.specs.Rules.{AreAllSaid, AreGivenDays, AreHolidayRules, AreSpoken, AreWithHolidays, HasHolidays}
 use Rattle.gtd_hours_known.specs.Rules.{IsHolidayRule, IsHolidayUncovered, IsUncoveredBy, IsUncoveredIn, WithAny}
 use Rattle.gtd_hours_known.specs.declared.known.Known.{Known}
 use Rattle.gtd_hours_dated.specs.Dated.{IsDatedHours}
-use Rattle.gtd_hours_dated.specs.facts.SameDated.{dated_rules}
 use Rattle.gtd_hours_text.specs.facts.SameRules.{SameRules}
+use Rattle.gtd_hours_known.proofs.ApartFacts.{one_own}
 use Rattle.gtd_hours_file.proofs.Alike.{AreAllAlike, alike_append, alike_by}
 use Rattle.gtd_hours_file.proofs.AlikeDays.{made_alike}
 
@@ -53,7 +55,9 @@ falls_same (x ∷ xs) (y ∷ ys) e =
 need_same : (known : Known) (x y : HolidayRule) (xs ys : List HolidayRule) → said_by x ≡ said_by y
     → some_falls_back xs ≡ some_falls_back ys → need_of known x xs ≡ need_of known y ys
 need_same known x y xs ys s rest = λ i.
-    or_later (none_given known ((s i).holidays) ((s i).places))
+    or_later (
+    or_later (no_easter_years known.years ((s i).easter) ((s i).easter_places)) (none_given known ((s i).holidays) ((s i).places))
+    )
     (if is_fallback ((s i).link) && not (rest i) then None else not_known ((s i).unknown))
 
 pub first_need_same : (known : Known) (xs ys : List HolidayRule) → map said_by xs ≡ map said_by ys
@@ -71,10 +75,17 @@ first_need_same known (x ∷ xs) (y ∷ ys) e =
 -- ---- what they stand for
 
 -- the hours of a rule's own text
-own_rules : (x y : HolidayRule) (a b : _) → said_by x ≡ said_by y → IsDatedHours x.text.items x.dates.items a
-    → IsDatedHours y.text.items y.dates.items b → SameRules a.rules.items b.rules.items
-own_rules x y a b same p q =
-    dated_rules y.text.items y.dates.items a b (subst (λ (s : Said). IsDatedHours s.text s.dates a) same p) q
+own_of : (known : Known) (x y : HolidayRule) (hours : Hours) → said_by x ≡ said_by y → IsOwnHours known x hours
+    → IsOwnHours known y hours
+own_of known x y hours same p = record {
+  easter = p.easter;
+  are = subst (λ (s : Said). AreEasterDays known s.easter p.easter) same p.are;
+  stands = subst (λ (s : Said). IsDatedHours s.text (more_days s.dates s.easter p.easter) hours) same p.stands;
+}
+
+own_rules : (known : Known) (x y : HolidayRule) (a b : Hours) → said_by x ≡ said_by y → IsOwnHours known x a
+    → IsOwnHours known y b → SameRules a.rules.items b.rules.items
+own_rules known x y a b same p q = one_own known y a b (own_of known x y a same p) q
 
 -- what is given of holidays that say the same
 days_of : (known : Known) (x y : HolidayRule) (days : List Selector) → said_by x ≡ said_by y
@@ -113,7 +124,7 @@ spoken_alike known x y false false ds es ps qs ms ns e s given also same p q =
 rule_alike : (known : Known) (x y : HolidayRule) (ms ns : List Rule) → said_by x ≡ said_by y → IsHolidayRule known x ms
     → IsHolidayRule known y ns → AreAllAlike ms ns
 rule_alike known x y ms ns s p q =
-    let own = own_rules x y p.plain q.plain s p.stands q.stands in
+    let own = own_rules known x y p.plain q.plain s p.own q.own in
     spoken_alike known x y _ _ p.days q.days p.plain.rules.items q.plain.rules.items ms ns (λ i. is_some ((s i).unknown)) s
     p.listed (days_of known x y q.days s q.listed) own p.are q.are
 

@@ -49,7 +49,7 @@ after_month behind.Years = behind.MonthDays
 after_month (behind.Moving beside) = behind.Moving true
 after_month b = b
 
--- behind a range of days that moves, beside months and dates or not
+-- behind a range of days that moves or Easter, beside months and dates or not
 abbrev pub after_dated : Behind → Behind
 after_dated behind.Front = behind.Moving false
 after_dated behind.Years = behind.Moving false
@@ -102,6 +102,7 @@ behind_after b role.Fallback item = behind.Front
 behind_after b (role.Leading h) item = after_leading b item.from
 behind_after b (role.Listed h) item = after_listed b
 behind_after b (role.Dated days) item = after_dated b
+behind_after b (role.Known days) item = after_dated b
 behind_after b role.Misfit item = b
 behind_after b role.Silent item = behind.Done
 behind_after b role.UnknownWord item = behind.Done
@@ -131,6 +132,7 @@ last_of (what.Token k) = last_token k
 last_of (what.Holiday h) = last_holiday h
 last_of (what.Dates days) = last.Dates
 last_of (what.NoDates bad) = last.NoDates bad
+last_of (what.Easter offset) = last.Easter
 last_of what.Comment = last.NoComment
 last_of what.Unknown = last.Modifier
 last_of what.Fallback = last.Other

@@ -40,6 +40,7 @@ form_of text item (role.Leading h) = Some []
 form_of text item role.Gone = Some []
 form_of text item (role.Listed h) = Some (codes "Mo")
 form_of text item (role.Dated days) = Some (dates_form text item)
+form_of text item (role.Known days) = Some (dates_form text item)
 form_of text item role.Undated = Some (dates_form text item)
 form_of text item role.Doubtful = Some (codes "PH")
 form_of text item role.Misfit = Some (codes "]")

@@ -13,11 +13,16 @@ abbrev pub is_holiday : What → Bool
 is_holiday (what.Holiday h) = true
 is_holiday w = false
 
--- a range of days that moves
+-- a range of days that moves, or Easter
 abbrev pub is_dates : What → Bool
 is_dates (what.Dates days) = true
 is_dates (what.NoDates bad) = true
+is_dates (what.Easter offset) = true
 is_dates w = false
+
+abbrev pub is_dash : What → Bool
+is_dash (what.Token kind.Dash) = true
+is_dash w = false
 
 abbrev pub is_comma : What → Bool
 is_comma (what.Token kind.Comma) = true

@@ -1,6 +1,7 @@
--- The items of a text: its tokens. Some are holidays, with the offsets that belong to them, ranges of days that move, comments,
--- `||` or `unknown`.
-use Rattle.std.specs.Prelude.{◌≡◌, ℕ, zero, suc, ◌-◌, ◌&&◌, ◌==◌, Bool, true, false, List, [], ◌∷◌, Option, Some, None, is_some}
+-- The items of a text: its tokens. Some are holidays or Easter, with the offsets that belong to them, ranges of days that move,
+-- comments, `||` or `unknown`.
+use Rattle.std.specs.Prelude.{◌≡◌, ℕ, zero, suc, ◌-◌, ◌&&◌, ◌||◌, ◌==◌, Bool, true, false, List, [], ◌∷◌, Option, Some, None}
+use Rattle.std.specs.Prelude.{is_some}
 use Rattle.std.specs.Prelude.{bytes_eq, codes, drop, take, if◌then◌else◌}
 use Rattle.gtd_hours_days.specs.declared.listed.Listed.TheVariants as listed
 use Rattle.gtd_hours_tokens.specs.declared.token.Token.{Token}
@@ -57,15 +58,24 @@ abbrev pub public_with : Token → Option Placed → Item
 public_with token None = record { what = what.Holiday (listed.Public (later 0)); from = token.from; to = token.to }
 public_with token (Some (offset, to)) = record { what = what.Holiday (listed.Public offset); from = token.from; to = to }
 
+abbrev pub is_easter : List ℕ → Token → Bool
+is_easter text token = is_word text token (codes "easter")
+
+-- Easter Sunday, with the offset behind it if there is one.
+abbrev pub easter_with : Token → Option Placed → Item
+easter_with token None = record { what = what.Easter (later 0); from = token.from; to = token.to }
+easter_with token (Some (offset, to)) = record { what = what.Easter offset; from = token.from; to = to }
+
 -- The item that begins with a token, where these come behind it.
 abbrev pub item_at : List ℕ → Token → List Token → Item
 item_at text token ts =
     if is_public text token then public_with token (offset_front ts)
+    else if is_easter text token then easter_with token (offset_front ts)
     else record { what = what_of text token; from = token.from; to = token.to }
 
 -- How many of these belong to it: a sign, a number and `day`, or none.
 abbrev pub more_at : List ℕ → Token → List Token → ℕ
-more_at text token ts = if is_public text token && is_some (offset_front ts) then 3 else 0
+more_at text token ts = if (is_public text token || is_easter text token) && is_some (offset_front ts) then 3 else 0
 
 -- The item of a range of days that moves, or of its first token if it has a fault.
 abbrev pub range_item : Token → MovingFront → Item

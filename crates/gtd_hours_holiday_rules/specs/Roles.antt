@@ -2,6 +2,8 @@
 use Rattle.std.specs.Prelude.{Bool, true, false, ◌&&◌, ◌||◌, not, List, if◌then◌else◌}
 use Rattle.gtd_hours.specs.declared.hours.Link.TheVariants as link
 use Rattle.gtd_hours_days.specs.declared.listed.Listed.{Listed}
+use Rattle.gtd_hours_days.specs.declared.listed.Listed.TheVariants as listed
+use Rattle.gtd_hours_days.specs.declared.offset.Offset.{Offset}
 use Rattle.gtd_hours_tokens.specs.declared.token.TokenKind.{TokenKind}
 use Rattle.gtd_hours_tokens.specs.declared.token.TokenKind.TheVariants as kind
 use Rattle.gtd_hours_holiday_rules.specs.declared.items.Item.{Item}
@@ -15,8 +17,8 @@ use Rattle.gtd_hours_holiday_rules.specs.declared.behind.Position.{Position}
 use Rattle.gtd_hours_holiday_rules.specs.declared.role.Role.{Role}
 use Rattle.gtd_hours_holiday_rules.specs.declared.role.Role.TheVariants as role
 use Rattle.gtd_hours_holiday_rules.specs.Behind.{is_commented, is_faulty}
-use Rattle.gtd_hours_holiday_rules.specs.Coming.{begins, begins_date, begins_month_days, is_dates, is_holiday, is_month}
-use Rattle.gtd_hours_holiday_rules.specs.Coming.{is_number, is_time, is_weekday, is_year, leads}
+use Rattle.gtd_hours_holiday_rules.specs.Coming.{begins, begins_date, begins_month_days, is_dash, is_dates, is_holiday}
+use Rattle.gtd_hours_holiday_rules.specs.Coming.{is_month, is_number, is_time, is_weekday, is_year, leads}
 
 -- a holiday where a list of days begins
 abbrev pub first_role : Listed → List Item → Role
@@ -50,9 +52,10 @@ days_comma weekdays later =
     else if begins is_holiday later then role.Unwritten
     else role.Begins link.Also
 
--- Month days go on behind a comma: directly behind a range that moves not with the number of a day.
+-- Month days go on behind a comma: directly behind a range that moves or Easter not with the number of a day.
 abbrev pub dates_go_on : Last → List Item → Bool
 dates_go_on last.Dates later = begins_date later
+dates_go_on last.Easter later = begins_date later
 dates_go_on l later = begins_month_days later
 
 -- a comma behind a list of month days, with months or dates or without: in the rule's own text it stands between these alone
@@ -87,9 +90,10 @@ bracket_role behind.Holidays = role.Misfit
 bracket_role behind.Mixed = role.Misfit
 bracket_role b = role.Kept
 
--- a sign: holidays have no more offsets here, and ranges that move have none
+-- a sign: holidays and Easter have no more offsets here, and ranges that move have none
 abbrev pub sign_role : Behind → Last → Role
 sign_role b last.Dates = role.Misfit
+sign_role b last.Easter = role.Misfit
 sign_role b l = bracket_role b
 
 -- a dash, which is the sign of an offset or goes on with a range: with none behind places, before a month
@@ -97,12 +101,18 @@ abbrev pub dash_role : Behind → Last → List Item → Role
 dash_role b last.Bracket later = if begins is_month later then role.Misfit else bracket_role b
 dash_role b l later = sign_role b l
 
--- a number: none stands directly behind a range that moves
+-- a number: none stands directly behind a range that moves or Easter
 abbrev pub number_role : Last → Role
 number_role last.Dates = role.Misfit
+number_role last.Easter = role.Misfit
 number_role l = role.Kept
 
--- a colon: the rule's own text has none behind ranges that move
+-- Easter: it is not read directly behind a number or a sign, nor before a dash
+abbrev pub easter_role : Last → Offset → List Item → Role
+easter_role last.Unfinished offset later = role.Kept
+easter_role l offset later = if begins is_dash later then role.Kept else role.Known (listed.Easter offset)
+
+-- a colon: the rule's own text has none behind ranges that move and Easter
 abbrev pub colon_role : Behind → Role
 colon_role (behind.Moving beside) = role.Unwritten
 colon_role b = role.Kept
@@ -143,6 +153,7 @@ role_in p (what.Holiday h) later = holiday_role p.behind p.last h later
 role_in p (what.Token k) later = token_role p.behind p.last k later
 role_in p (what.Dates days) later = role.Dated days
 role_in p (what.NoDates bad) later = role.Undated
+role_in p (what.Easter offset) later = easter_role p.last offset later
 role_in p what.Comment later = comment_role p.behind p.last
 role_in p what.Fallback later = role.Fallback
 role_in p what.Unknown later = role.UnknownWord

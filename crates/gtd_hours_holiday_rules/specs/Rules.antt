@@ -21,6 +21,8 @@ pub record Said : Type 0 where
   pub holidays : List Listed
   pub places : List ℕ
   pub dates : List Selector
+  pub easter : List Listed
+  pub easter_places : List ℕ
   pub unknown : Option ℕ
   pub remark : Option ℕ
 
@@ -32,6 +34,8 @@ said_by rule = record {
   holidays = rule.holidays.items;
   places = rule.places.items;
   dates = rule.dates.items;
+  easter = rule.easter.items;
+  easter_places = rule.easter_places.items;
   unknown = rule.unknown;
   remark = rule.remark;
 }
@@ -45,6 +49,8 @@ begun link = record {
   holidays = [];
   places = [];
   dates = [];
+  easter = [];
+  easter_places = [];
   unknown = None;
   remark = None;
 }
@@ -58,16 +64,21 @@ with_holiday rule h place = record rule { holidays = rule.holidays ++ h ∷ []; 
 abbrev pub with_date : Said → Selector → Said
 with_date rule days = record rule { dates = rule.dates ++ days ∷ [] }
 
+abbrev pub with_easter : Said → Listed → ℕ → Said
+with_easter rule days place =
+    record rule { easter = rule.easter ++ days ∷ []; easter_places = rule.easter_places ++ place ∷ [] }
+
 abbrev pub with_leading : Said → Listed → ℕ → Said
 with_leading rule h place = record (with_holiday rule h place) { is_led = true }
 
--- An item with this role goes on with a rule: its bytes and a space (32), its holiday, its range of days that moves, or the place
--- where it makes the rule unknown or remarks on it.
+-- An item with this role goes on with a rule: its bytes and a space (32), its holiday, its range of days that moves, its day of
+-- Easter, or the place where it makes the rule unknown or remarks on it.
 abbrev pub with_item : List ℕ → Said → Role → Item → Said
 with_item text rule role.Kept item = with_text rule (stretch text item.from item.to ++ 32 ∷ [])
 with_item text rule (role.Leading h) item = with_leading rule h item.from
 with_item text rule (role.Listed h) item = with_holiday rule h item.from
 with_item text rule (role.Dated days) item = with_date rule days
+with_item text rule (role.Known days) item = with_easter rule days item.from
 with_item text rule role.UnknownWord item = record rule { unknown = Some item.from }
 with_item text rule role.UnknownComment item = record rule { unknown = Some item.from }
 with_item text rule role.Remark item = record rule { remark = Some item.from }
@@ -106,10 +117,11 @@ rules_from text rule (part ∷ parts) =
 abbrev pub rules_of : List ℕ → List Part → List Said
 rules_of text parts = rules_from text (begun link.Instead) parts
 
--- each of the rules has a place for each of its holidays
+-- each of the rules has a place for each of its holidays, and of its days of Easter
 abbrev pub HavePlaces : List Said → Type 0
 HavePlaces [] = ⊤
-HavePlaces (rule ∷ rules) = (length rule.places ≡ length rule.holidays) × HavePlaces rules
+HavePlaces (rule ∷ rules) =
+    (length rule.places ≡ length rule.holidays) × (length rule.easter_places ≡ length rule.easter) × HavePlaces rules
 
 -- ---- as the code has come so far
 

@@ -42,9 +42,11 @@ is_sign (what.Token kind.Plus) = true
 is_sign (what.Token kind.Dash) = true
 is_sign w = false
 
-abbrev pub is_public : Last → Bool
-is_public last.Public = true
-is_public l = false
+-- it may have an offset of days
+abbrev pub has_offset : Last → Bool
+has_offset last.Public = true
+has_offset last.Easter = true
+has_offset l = false
 
 abbrev pub is_dates : Last → Bool
 is_dates last.Dates = true
@@ -54,14 +56,15 @@ is_dates l = false
 -- holiday it is the number, where there are days; or a weekday, to which no offset leads. Else it is the sign itself.
 abbrev pub sign_fault : Last → ℕ → List Item → HoursFault
 sign_fault l place later =
-    if is_public l && begins_days later then record { kind = fault.Range; place = first_place place later }
-    else if is_public l && begins is_weekday later then record { kind = fault.Unsupported; place = first_place place later }
+    if has_offset l && begins_days later then record { kind = fault.Range; place = first_place place later }
+    else if has_offset l && begins is_weekday later then record { kind = fault.Unsupported; place = first_place place later }
     else record { kind = fault.Unexpected; place = place }
 
 -- a word or a sign that is not read there
 abbrev pub is_foreign : What → Bool
 is_foreign (what.Token kind.Unsupported) = true
 is_foreign (what.Token kind.Plus) = true
+is_foreign (what.Easter offset) = true
 is_foreign w = false
 
 -- what is wrong at an item that nothing of its kind can follow: behind a comment on its rule, or a range that moves
@@ -74,7 +77,8 @@ fault_at item =
 abbrev pub unfit_fault : Position → Item → List Item → HoursFault
 unfit_fault p item later =
     if is_commented p.behind || is_dates p.last then fault_at item
-    else if is_sign item.what then sign_fault p.last item.from later else record { kind = fault.Unexpected; place = item.from }
+    else if is_sign item.what then sign_fault p.last item.from later
+    else record { kind = fault.Unexpected; place = item.from }
 
 -- what is wrong with a `+` that cannot stand behind an item
 abbrev pub plus_kind : What → FaultKind
@@ -87,6 +91,7 @@ plus_kind w = fault.Unsupported
 abbrev pub misfit_kind : What → What → FaultKind → FaultKind
 misfit_kind before (what.Token kind.Plus) k = plus_kind before
 misfit_kind before (what.Token t) k = k
+misfit_kind before (what.Easter offset) k = k
 misfit_kind before w k = fault.Unexpected
 
 -- with the item of this fault among these behind another
@@ -119,10 +124,15 @@ abbrev pub led_instead : Behind → What → Option Instead
 led_instead (behind.Led from) w = if is_weekday w then Some (instead.Place from) else None
 led_instead b w = None
 
+-- Easter that cannot stand where it does is not read there.
+abbrev pub unread_fault : Item → HoursFault
+unread_fault item = record { kind = fault.Unsupported; place = item.from }
+
 -- How a fault at an item with this role is told, if not as it is.
 abbrev pub instead_of : Position → Role → Item → List Item → Option Instead
 instead_of p role.Doubtful item later = Some (instead.Ambiguous item.from)
 instead_of p role.Misfit item later = Some (instead.Fault (misfit_fault p item later))
+instead_of p (role.Known days) item later = Some (instead.Fault (unread_fault item))
 instead_of p role.Remark item later = Some (instead.Place item.from)
 instead_of p role.UnknownComment item later = Some (instead.Place item.from)
 instead_of p r item later = led_instead p.behind item.what

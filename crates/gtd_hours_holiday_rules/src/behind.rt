@@ -21,7 +21,7 @@ pub enum Behind {
     Years,
     /// Months and dates.
     MonthDays,
-    /// Ranges of days that move.
+    /// Ranges of days that move, and Easter.
     Moving {
         /// Whether months or dates stand in the same list.
         beside: bool,
@@ -68,7 +68,9 @@ pub enum Last {
     Public,
     /// A range of days that moves.
     Dates,
-    /// The beginning of such a range, which has this fault.
+    /// Easter.
+    Easter,
+    /// The beginning of a range of days that moves, which has this fault.
     NoDates(HoursFault),
     /// The bracket behind places.
     Bracket,
@@ -257,6 +259,7 @@ fn behind_after(behind: Behind, role: Role, item: Item) -> Behind
         Role::Leading(_) => after_leading(behind, item.from),
         Role::Listed(_) => after_listed(behind),
         Role::Dated(_) => after_dated(behind),
+        Role::Known(_) => after_dated(behind),
         Role::Misfit => behind,
         Role::Silent => Behind::Done,
         Role::UnknownWord => Behind::Done,
@@ -299,6 +302,7 @@ fn last_of(what: What) -> Last
         What::Holiday(holiday) => last_holiday(holiday),
         What::Dates(_) => Last::Dates,
         What::NoDates(bad) => Last::NoDates(bad),
+        What::Easter(_) => Last::Easter,
         What::Comment => Last::NoComment,
         What::Unknown => Last::Modifier,
         What::Fallback => Last::Other,

@@ -96,6 +96,7 @@ fn form_of(text: &[u8], item: Item, role: Role) -> Option<&'static [u8]>
         Role::Gone => Some(b"".as_slice()),
         Role::Listed(_) => Some(b"Mo".as_slice()),
         Role::Dated(_) => Some(dates_form(text, item)),
+        Role::Known(_) => Some(dates_form(text, item)),
         Role::Undated => Some(dates_form(text, item)),
         Role::Doubtful => Some(b"PH".as_slice()),
         Role::Misfit => Some(b"]".as_slice()),

@@ -1,8 +1,9 @@
 //! The items to come.
 
 ghost use Rattle.std.specs.Prelude.{◌≡◌, false};
-ghost use Rattle.gtd_hours_holiday_rules.specs.Coming.{begins, begins_date, begins_month_days, is_comma, is_dates, is_holiday};
-ghost use Rattle.gtd_hours_holiday_rules.specs.Coming.{is_month, is_number, is_slash, is_time, is_weekday, is_year, leads};
+ghost use Rattle.gtd_hours_holiday_rules.specs.Coming.{begins, begins_date, begins_month_days, is_comma, is_dash, is_dates};
+ghost use Rattle.gtd_hours_holiday_rules.specs.Coming.{is_holiday, is_month, is_number, is_slash, is_time, is_weekday};
+ghost use Rattle.gtd_hours_holiday_rules.specs.Coming.{is_year, leads};
 
 use crate::items::{Item, What};
 use gtd_hours_tokens::TokenKind;
@@ -32,6 +33,16 @@ fn is_dates(what: What) -> bool
     match what {
         What::Dates(_) => true,
         What::NoDates(_) => true,
+        What::Easter(_) => true,
+        _ => false,
+    }
+}
+
+fn is_dash(what: What) -> bool
+    ensures { result ≡ is_dash what }
+{
+    match what {
+        What::Token(TokenKind::Dash) => true,
         _ => false,
     }
 }
@@ -112,13 +123,23 @@ pub fn begins_holiday(items: &[Item]) -> bool
     }
 }
 
-/// Whether it is a range of days that moves.
+/// Whether it is a range of days that moves, or Easter.
 pub fn begins_dates(items: &[Item]) -> bool
     ensures { result ≡ begins is_dates items.now }
 {
     match items.first() {
         None => false,
         Some(item) => is_dates(item.what),
+    }
+}
+
+/// Whether it is a dash.
+pub fn begins_dash(items: &[Item]) -> bool
+    ensures { result ≡ begins is_dash items.now }
+{
+    match items.first() {
+        None => false,
+        Some(item) => is_dash(item.what),
     }
 }
 

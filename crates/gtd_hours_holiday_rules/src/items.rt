@@ -2,9 +2,9 @@
 //! or are unknown.
 
 ghost use Rattle.std.specs.Prelude.{◌≡◌, ◌++◌, IfOk, List};
-ghost use Rattle.gtd_hours_holiday_rules.specs.Items.{AreItems, begins_quoted, is_comment, is_public, is_school, is_unread};
-ghost use Rattle.gtd_hours_holiday_rules.specs.Items.{is_word, item_at, item_by, more_at, more_by, more_of_range, public_with};
-ghost use Rattle.gtd_hours_holiday_rules.specs.Items.{range_item, stretch, what_of};
+ghost use Rattle.gtd_hours_holiday_rules.specs.Items.{AreItems, begins_quoted, easter_with, is_comment, is_easter, is_public};
+ghost use Rattle.gtd_hours_holiday_rules.specs.Items.{is_school, is_unread, is_word, item_at, item_by, more_at, more_by};
+ghost use Rattle.gtd_hours_holiday_rules.specs.Items.{more_of_range, public_with, range_item, stretch, what_of};
 
 use crate::fronts::{Before, before_after, front_at};
 use crate::offsets::{later, offset_front};
@@ -26,6 +26,8 @@ pub enum What {
     Dates(Selector),
     /// The first token of such a range that has a fault.
     NoDates(HoursFault),
+    /// So many days after Easter Sunday.
+    Easter(Offset),
     /// A comment.
     Comment,
     /// `||`, the sign of a fallback rule.
@@ -84,6 +86,12 @@ fn is_school(text: &[u8], token: Token) -> bool
     is_word(text, token, b"SH")
 }
 
+fn is_easter(text: &[u8], token: Token) -> bool
+    ensures { result ≡ is_easter text.now token }
+{
+    is_word(text, token, b"easter")
+}
+
 fn begins_quoted(bytes: &[u8]) -> bool
     ensures { result ≡ begins_quoted bytes.now }
 {
@@ -135,12 +143,33 @@ fn public_with(token: Token, offset: Option<(Offset, usize)>) -> Item
     }
 }
 
+// Easter Sunday, with the offset behind it if there is one.
+fn easter_with(token: Token, offset: Option<(Offset, usize)>) -> Item
+    ensures { result ≡ easter_with token offset }
+{
+    match offset {
+        None => Item {
+            what: What::Easter(later(0)),
+            from: token.from,
+            to: token.to,
+        },
+        Some((offset, to)) => Item {
+            what: What::Easter(offset),
+            from: token.from,
+            to,
+        },
+    }
+}
+
 // The item that begins with a token, where these come behind it.
 fn item_at(text: &[u8], token: Token, later: &[Token]) -> Item
     ensures { result ≡ item_at text.now token later.now }
 {
     if is_public(text, token) {
         return public_with(token, offset_front(later));
+    }
+    if is_easter(text, token) {
+        return easter_with(token, offset_front(later));
     }
     Item {
         what: what_of(text, token),
@@ -153,7 +182,7 @@ fn item_at(text: &[u8], token: Token, later: &[Token]) -> Item
 fn more_at(text: &[u8], token: Token, later: &[Token]) -> u8
     ensures { result ≡ more_at text.now token later.now }
 {
-    if is_public(text, token) && offset_front(later).is_some() {
+    if (is_public(text, token) || is_easter(text, token)) && offset_front(later).is_some() {
         3
     } else {
         0

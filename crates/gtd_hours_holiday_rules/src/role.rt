@@ -18,6 +18,8 @@ pub enum Role {
     Listed(Listed),
     /// Month days of the rule that are not in its own text: a month stands for them in the checked text.
     Dated(Selector),
+    /// Days of Easter, month days of the rule that are not in its own text: a month stands for them in the checked text.
+    Known(Listed),
     /// Month days that have a fault: a month stands for them in the checked text, which has a fault behind it.
     Undated,
     /// People read what stands here in two ways: the checked text has a fault here.

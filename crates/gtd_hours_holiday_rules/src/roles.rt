@@ -2,19 +2,19 @@
 
 ghost use Rattle.std.specs.Prelude.{◌≡◌};
 ghost use Rattle.gtd_hours_holiday_rules.specs.Roles.{bracket_role, colon_role, comma_role, comment_role, dash_role};
-ghost use Rattle.gtd_hours_holiday_rules.specs.Roles.{dates_comma, dates_go_on, days_comma, first_role, holiday_role};
-ghost use Rattle.gtd_hours_holiday_rules.specs.Roles.{joined_role, kept_if, number_role, remark_role, role_in, role_of};
-ghost use Rattle.gtd_hours_holiday_rules.specs.Roles.{separates, sign_role, token_role, weekday_role};
+ghost use Rattle.gtd_hours_holiday_rules.specs.Roles.{dates_comma, dates_go_on, days_comma, easter_role, first_role};
+ghost use Rattle.gtd_hours_holiday_rules.specs.Roles.{holiday_role, joined_role, kept_if, number_role, remark_role, role_in};
+ghost use Rattle.gtd_hours_holiday_rules.specs.Roles.{role_of, separates, sign_role, token_role, weekday_role};
 
 use crate::behind::{Behind, Last, Position, is_commented, is_faulty};
 use crate::coming::{
-    begins_date, begins_dates, begins_holiday, begins_month, begins_month_days, begins_number,
-    begins_time, begins_weekday, begins_year, leads,
+    begins_dash, begins_date, begins_dates, begins_holiday, begins_month, begins_month_days,
+    begins_number, begins_time, begins_weekday, begins_year, leads,
 };
 use crate::items::{Item, What};
 use crate::role::Role;
 use gtd_hours::Link;
-use gtd_hours_days::Listed;
+use gtd_hours_days::{Listed, Offset};
 use gtd_hours_tokens::TokenKind;
 
 // A holiday where a list of days begins.
@@ -88,12 +88,13 @@ fn days_comma(weekdays: bool, later: &[Item]) -> Role
     }
 }
 
-// Whether month days go on behind a comma: directly behind a range that moves not with the number of a day.
+// Whether month days go on behind a comma: directly behind a range that moves or Easter not with the number of a day.
 fn dates_go_on(last: Last, later: &[Item]) -> bool
     ensures { result ≡ dates_go_on last later.now }
 {
     match last {
         Last::Dates => begins_date(later),
+        Last::Easter => begins_date(later),
         _ => begins_month_days(later),
     }
 }
@@ -153,12 +154,13 @@ fn bracket_role(behind: Behind) -> Role
     }
 }
 
-// A sign: holidays have no more offsets here, and ranges that move have none.
+// A sign: holidays and Easter have no more offsets here, and ranges that move have none.
 fn sign_role(behind: Behind, last: Last) -> Role
     ensures { result ≡ sign_role behind last }
 {
     match last {
         Last::Dates => Role::Misfit,
+        Last::Easter => Role::Misfit,
         _ => bracket_role(behind),
     }
 }
@@ -179,17 +181,34 @@ fn dash_role(behind: Behind, last: Last, later: &[Item]) -> Role
     }
 }
 
-// A number: none stands directly behind a range that moves.
+// A number: none stands directly behind a range that moves or Easter.
 fn number_role(last: Last) -> Role
     ensures { result ≡ number_role last }
 {
     match last {
         Last::Dates => Role::Misfit,
+        Last::Easter => Role::Misfit,
         _ => Role::Kept,
     }
 }
 
-// A colon: the rule's own text has none behind ranges that move.
+// Easter: it is not read directly behind a number or a sign, nor before a dash.
+fn easter_role(last: Last, offset: Offset, later: &[Item]) -> Role
+    ensures { result ≡ easter_role last offset later.now }
+{
+    match last {
+        Last::Unfinished => Role::Kept,
+        _ => {
+            if begins_dash(later) {
+                Role::Kept
+            } else {
+                Role::Known(Listed::Easter { offset })
+            }
+        }
+    }
+}
+
+// A colon: the rule's own text has none behind ranges that move and Easter.
 fn colon_role(behind: Behind) -> Role
     ensures { result ≡ colon_role behind }
 {
@@ -245,6 +264,7 @@ fn role_in(position: Position, what: What, later: &[Item]) -> Role
         What::Token(kind) => token_role(position.behind, position.last, kind, later),
         What::Dates(days) => Role::Dated(days),
         What::NoDates(_) => Role::Undated,
+        What::Easter(offset) => easter_role(position.last, offset, later),
         What::Comment => comment_role(position.behind, position.last),
         What::Fallback => Role::Fallback,
         What::Unknown => Role::UnknownWord,

@@ -2,7 +2,7 @@
 
 ghost use Rattle.std.specs.Prelude.{◌≡◌, ◌++◌, ◌∷◌, [], List, IfOk, OnOk, map};
 ghost use Rattle.gtd_hours_holiday_rules.specs.Rules.{all_rules, begun, ended, link_behind, rules_of, said_by};
-ghost use Rattle.gtd_hours_holiday_rules.specs.Rules.{with_date, with_holiday, with_item, with_text};
+ghost use Rattle.gtd_hours_holiday_rules.specs.Rules.{with_date, with_easter, with_holiday, with_item, with_text};
 ghost use Rattle.gtd_hours_holiday_rules.specs.declared.parts.Part.{Part};
 
 use crate::items::{Item, stretch};
@@ -18,7 +18,7 @@ use std::mem::replace;
 pub struct HolidayRule {
     /// How it stands to the rules before it.
     pub link: Link,
-    /// Its text without holidays and ranges of days that move: plain hours of one rule.
+    /// Its text without holidays, ranges of days that move and Easter: plain hours of one rule.
     pub text: Vec<u8>,
     /// Whether its holidays lead: then a day must be one of them as well as what the text says. Else it must be one of them or
     /// one of the text's weekdays.
@@ -29,6 +29,10 @@ pub struct HolidayRule {
     pub places: Vec<usize>,
     /// Its ranges of days that move, from left to right: they are beside the month days of its text.
     pub dates: Vec<Selector>,
+    /// Its days of Easter, from left to right: they are month days, too.
+    pub easter: Vec<Listed>,
+    /// Where each of these begins in the whole text.
+    pub easter_places: Vec<usize>,
     /// The number of bytes before the word or the comment that makes it unknown, if it is.
     pub unknown: Option<usize>,
     /// The number of bytes before a comment without a word that says that the rule is open, if it has one.
@@ -54,6 +58,8 @@ fn begun(alloc: Global, link: Link) -> HolidayRule
         holidays: Vec::new(alloc),
         places: Vec::new(alloc),
         dates: Vec::new(alloc),
+        easter: Vec::new(alloc),
+        easter_places: Vec::new(alloc),
         unknown: None,
         remark: None,
     }
@@ -82,6 +88,14 @@ fn push_date(rule: &mut HolidayRule, days: Selector) -> Result<(), AllocError>
     Ok(())
 }
 
+fn push_easter(rule: &mut HolidayRule, days: Listed, place: usize) -> Result<(), AllocError>
+    ensures { OnOk result (said_by rule.new ≡ with_easter (said_by rule.old) days place) }
+{
+    rule.easter.push(days)?;
+    rule.easter_places.push(place)?;
+    Ok(())
+}
+
 // An item of which this becomes goes on with a rule.
 fn push_item(rule: &mut HolidayRule, text: &[u8], role: Role, item: Item) -> Result<(), AllocError>
     ensures { OnOk result (said_by rule.new ≡ with_item text.now (said_by rule.old) role item) }
@@ -94,6 +108,7 @@ fn push_item(rule: &mut HolidayRule, text: &[u8], role: Role, item: Item) -> Res
         }
         Role::Listed(holiday) => push_holiday(rule, holiday, item.from),
         Role::Dated(days) => push_date(rule, days),
+        Role::Known(days) => push_easter(rule, days, item.from),
         Role::UnknownWord => {
             rule.unknown = Some(item.from);
             Ok(())

@@ -3,9 +3,9 @@
 ghost use Rattle.std.specs.Prelude.{◌≡◌};
 ghost use Rattle.gtd_hours_holiday_rules.specs.Coming.{begins};
 ghost use Rattle.gtd_hours_holiday_rules.specs.Told.{begins_days, behind_first, fault_at, fault_by, fault_in_range};
-ghost use Rattle.gtd_hours_holiday_rules.specs.Told.{first_place, instead_of, is_dates, is_day, is_foreign, is_misfit};
-ghost use Rattle.gtd_hours_holiday_rules.specs.Told.{is_public, is_sign, kind_among, led_instead, misfit_fault, misfit_kind};
-ghost use Rattle.gtd_hours_holiday_rules.specs.Told.{plus_kind, sign_fault, told_at, told_fault, unfit_fault};
+ghost use Rattle.gtd_hours_holiday_rules.specs.Told.{first_place, has_offset, instead_of, is_dates, is_day, is_foreign};
+ghost use Rattle.gtd_hours_holiday_rules.specs.Told.{is_misfit, is_sign, kind_among, led_instead, misfit_fault, misfit_kind};
+ghost use Rattle.gtd_hours_holiday_rules.specs.Told.{plus_kind, sign_fault, told_at, told_fault, unfit_fault, unread_fault};
 
 use crate::behind::{Behind, Last, Position, is_commented};
 use crate::coming::{begins_weekday, is_number, is_weekday};
@@ -99,11 +99,13 @@ fn is_sign(what: What) -> bool
     }
 }
 
-fn is_public(last: Last) -> bool
-    ensures { result ≡ is_public last }
+// Whether it may have an offset of days.
+fn has_offset(last: Last) -> bool
+    ensures { result ≡ has_offset last }
 {
     match last {
         Last::Public => true,
+        Last::Easter => true,
         _ => false,
     }
 }
@@ -121,12 +123,12 @@ fn is_dates(last: Last) -> bool
 fn sign_fault(last: Last, place: usize, later: &[Item]) -> HoursFault
     ensures { result ≡ sign_fault last place later.now }
 {
-    if is_public(last) && begins_days(later) {
+    if has_offset(last) && begins_days(later) {
         HoursFault {
             kind: FaultKind::Range,
             place: first_place(place, later),
         }
-    } else if is_public(last) && begins_weekday(later) {
+    } else if has_offset(last) && begins_weekday(later) {
         HoursFault {
             kind: FaultKind::Unsupported,
             place: first_place(place, later),
@@ -146,6 +148,7 @@ fn is_foreign(what: What) -> bool
     match what {
         What::Token(TokenKind::Unsupported) => true,
         What::Token(TokenKind::Plus) => true,
+        What::Easter(_) => true,
         _ => false,
     }
 }
@@ -208,6 +211,7 @@ fn misfit_kind(before: What, what: What, kind: FaultKind) -> FaultKind
     match what {
         What::Token(TokenKind::Plus) => plus_kind(before),
         What::Token(_) => kind,
+        What::Easter(_) => kind,
         _ => FaultKind::Unexpected,
     }
 }
@@ -279,6 +283,16 @@ fn led_instead(behind: Behind, what: What) -> Option<Instead>
     }
 }
 
+// Easter that cannot stand where it does is not read there.
+fn unread_fault(item: Item) -> HoursFault
+    ensures { result ≡ unread_fault item }
+{
+    HoursFault {
+        kind: FaultKind::Unsupported,
+        place: item.from,
+    }
+}
+
 /// How a fault at an item is told, of which this becomes and which these items follow, if not as it is.
 pub fn instead_of(position: Position, role: Role, item: Item, later: &[Item]) -> Option<Instead>
     ensures { result ≡ instead_of position role item later.now }
@@ -286,6 +300,7 @@ pub fn instead_of(position: Position, role: Role, item: Item, later: &[Item]) ->
     match role {
         Role::Doubtful => Some(Instead::Ambiguous { place: item.from }),
         Role::Misfit => Some(Instead::Fault(misfit_fault(position, item, later))),
+        Role::Known(_) => Some(Instead::Fault(unread_fault(item))),
         Role::Remark => Some(Instead::Place(item.from)),
         Role::UnknownComment => Some(Instead::Place(item.from)),
         _ => led_instead(position.behind, item.what),

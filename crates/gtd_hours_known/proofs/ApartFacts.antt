@@ -1,23 +1,29 @@
--- Ranges of dates that are apart, and hold on the same days, are as many. So a table has one list of days for holidays.
-use Rattle.std.proofs.Common.{◌≡◌, ◌∙◌, ap, refl, sym, subst, arith, inl, inr, ◌↔◌, ◌+◌, List, [], ◌∷◌}
+-- Ranges of dates that are apart, and hold on the same days, are the same. So there is one list of days for holidays and Easter.
+use Rattle.std.proofs.Common.{◌≡◌, ◌∙◌, ap, refl, sym, subst, arith, inl, inr, List, [], ◌∷◌}
 use Rattle.std.proofs.Common.{ℤ, pos, ◌+ℤ◌, ◌≤ℤ◌}
 use Rattle.std.proofs.lemmas.Int.{by_lt_z}
 use Rattle.std.specs.Prelude.{Some}
 use Rattle.gtd_core.specs.Limits.{first_calendar_day}
 use Rattle.gtd_calendar.specs.facts.Signed.{signed_arith}
 use Rattle.gtd_calendar.specs.declared.day.DayFields.{DayFields}
-use Rattle.gtd_hours.specs.Cost.{selectors_cost}
 use Rattle.gtd_hours.specs.Opening.{SomeHolds}
 use Rattle.gtd_hours.specs.declared.hours.Dated.{Dated as DatedRange}
+use Rattle.gtd_hours.specs.declared.hours.Hours.{Hours}
 use Rattle.gtd_hours.specs.declared.hours.Selector.{Selector}
 use Rattle.gtd_hours.specs.declared.hours.Selector.TheVariants as selector
-use Rattle.gtd_hours_days.specs.Listed.{SomeListed}
+use Rattle.gtd_hours_dated.specs.Dated.{IsDatedHours}
+use Rattle.gtd_hours_dated.specs.facts.SameDated.{dated_rules}
+use Rattle.gtd_hours_text.specs.facts.SameRules.{SameRules}
 use Rattle.gtd_hours_days.specs.declared.listed.Listed.{Listed}
 use Rattle.gtd_hours_holidays.specs.declared.holidays.Holidays.{Holidays}
 use Rattle.gtd_hours_holidays.specs.declared.known_years.KnownYears.{KnownYears}
-use Rattle.gtd_hours_known.specs.HolidayDays.{AreApart, date_day}
+use Rattle.gtd_hours_holidays.specs.declared.row.HolidayRow.{HolidayRow}
+use Rattle.gtd_hours_holiday_rules.specs.declared.rules.HolidayRule.{HolidayRule}
+use Rattle.gtd_hours_known.specs.Easter.{AreEasterDays, IsOwnHours, month_days, of_easter}
+use Rattle.gtd_hours_known.specs.HolidayDays.{AreApart, AreDaysIn, date_day}
 use Rattle.gtd_hours_known.specs.Rules.{AreGivenDays}
 use Rattle.gtd_hours_known.specs.declared.known.Known.{Known}
+use Rattle.gtd_hours_known.proofs.RangeFacts.{same_range}
 
 -- ---- ranges
 
@@ -104,18 +110,19 @@ same_later d e xs ys f apart ends same n h = elim (same n (inr h)) [
   | inr later ↦ later
 ]
 
-same_cost : (from to : ℤ) (xs ys : List Selector) (f : DayFields) → AreApart from xs → AreApart to ys → AreSameDays xs ys f
-    → AreSameDays ys xs f → selectors_cost xs ≡ selectors_cost ys
-same_cost from to [] [] f are others p q = refl
-same_cost from to [] (y ∷ ys) f are others p q =
+-- Lists that are apart and hold on the same days are the same.
+same_list : (from to : ℤ) (xs ys : List Selector) (f : DayFields) → AreApart from xs → AreApart to ys → AreSameDays xs ys f
+    → AreSameDays ys xs f → xs ≡ ys
+same_list from to [] [] f are others p q = refl
+same_list from to [] (y ∷ ys) f are others p q =
     let b = apart_of to y ys others in
     absurd (q (date_day b.dates.first) (subst (λ (z : Selector). SomeHolds (z ∷ ys) (date_day b.dates.first) f) (sym b.is)
     (inl (omega (arith, signed_arith), b.order))))
-same_cost from to (x ∷ xs) [] f are others p q =
+same_list from to (x ∷ xs) [] f are others p q =
     let a = apart_of from x xs are in
     absurd (p (date_day a.dates.first) (subst (λ (z : Selector). SomeHolds (z ∷ xs) (date_day a.dates.first) f) (sym a.is)
     (inl (omega (arith, signed_arith), a.order))))
-same_cost from to (x ∷ xs) (y ∷ ys) f are others p q =
+same_list from to (x ∷ xs) (y ∷ ys) f are others p q =
     let a = apart_of from x xs are in
     let b = apart_of to y ys others in
     let P : AreSameDays (selector.Dated a.dates ∷ xs) (selector.Dated b.dates ∷ ys) f =
@@ -130,10 +137,10 @@ same_cost from to (x ∷ xs) (y ∷ ys) f are others p q =
     let long = last_after a.dates b.dates xs ys f a.order b.order b.more P begins in
     let longer = last_after b.dates a.dates ys xs f b.order a.order a.more Q (sym begins) in
     let ends : date_day a.dates.last ≡ date_day b.dates.last = omega (arith, signed_arith, long, longer) in
-    ap (λ (z : Selector). selectors_cost (z ∷ xs)) a.is
-    ∙ ap (λ n. 1 + n) (same_cost (date_day a.dates.last +ℤ pos 2) (date_day b.dates.last +ℤ pos 2) xs ys f a.more b.more
-    (same_later a.dates b.dates xs ys f a.more ends P) (same_later b.dates a.dates ys xs f b.more (sym ends) Q))
-    ∙ sym (ap (λ (z : Selector). selectors_cost (z ∷ ys)) b.is)
+    let here : x ≡ y = a.is ∙ ap selector.Dated (same_range a.dates b.dates begins ends) ∙ sym b.is in
+    let later = same_list (date_day a.dates.last +ℤ pos 2) (date_day b.dates.last +ℤ pos 2) xs ys f a.more b.more
+    (same_later a.dates b.dates xs ys f a.more ends P) (same_later b.dates a.dates ys xs f b.more (sym ends) Q) in
+    λ i. here i ∷ later i
 
 -- ---- holidays
 
@@ -153,29 +160,35 @@ some_fields = record {
 same_some : {A : Type 0} (a b : A) → Some a ≡ Some b → a ≡ b
 same_some a b e = cc
 
--- The days of holidays that are given hold on the same days, and take as many basic domains, whichever of them are taken.
+-- Rows have one list of days.
+one_in : (rows : List HolidayRow) (years : KnownYears) (listed : List Listed) (days others : List Selector)
+    → AreDaysIn rows years listed days → AreDaysIn rows years listed others → days ≡ others
+one_in rows years listed days others p q =
+    same_list first_calendar_day first_calendar_day days others some_fields p.2 q.2
+    (λ n a. (q.1 n some_fields).1 ((p.1 n some_fields).0 a)) (λ n a. (p.1 n some_fields).1 ((q.1 n some_fields).0 a))
+
+-- So has what is given of holidays, and of Easter.
 pub one_list : (known : Known) (holidays : List Listed) (days others : List Selector) → AreGivenDays known holidays days
-    → AreGivenDays known holidays others
-    → ((n : ℤ) (f : DayFields) → SomeHolds days n f ↔ SomeHolds others n f) × (selectors_cost days ≡ selectors_cost others)
-one_list known [] days others p q =
-    let same = p ∙ sym q in (
-      (λ n f. (
-        (λ h. subst (λ (l : List Selector). SomeHolds l n f) same h),
-        (λ h. subst (λ (l : List Selector). SomeHolds l n f) (sym same) h),
-      )),
-      ap selectors_cost same,
-    )
+    → AreGivenDays known holidays others → days ≡ others
+one_list known [] days others p q = p ∙ sym q
 one_list known (h ∷ holidays) days others p q =
     let same_table = same_some q.0 p.0 (sym q.2.has_table ∙ p.2.has_table) in
     let same_years = same_some q.1 p.1 (sym q.2.has_years ∙ p.2.has_years) in
-    let listed : (n : ℤ) (f : DayFields) → SomeHolds others n f ↔ SomeListed p.0.rows.items p.1 (h ∷ holidays) n =
-    λ n f. subst (λ (y : KnownYears). SomeHolds others n f ↔ SomeListed p.0.rows.items y (h ∷ holidays) n) same_years
-    (subst (λ (t : Holidays). SomeHolds others n f ↔ SomeListed t.rows.items q.1 (h ∷ holidays) n) same_table (q.3.1 n f)) in
-    let to : (n : ℤ) (f : DayFields) → SomeHolds days n f → SomeHolds others n f =
-    λ n f a. (listed n f).1 ((p.3.1 n f).0 a) in
-    let back : (n : ℤ) (f : DayFields) → SomeHolds others n f → SomeHolds days n f =
-    λ n f a. (p.3.1 n f).1 ((listed n f).0 a) in (
-      (λ n f. (to n f, back n f)),
-      same_cost first_calendar_day first_calendar_day days others some_fields p.3.2 q.3.2 (λ n a. to n some_fields a)
-          (λ n a. back n some_fields a),
-    )
+    one_in p.0.rows.items p.1 (h ∷ holidays) days others p.3
+    (subst (λ (y : KnownYears). AreDaysIn p.0.rows.items y (h ∷ holidays) others) same_years
+    (subst (λ (t : Holidays). AreDaysIn t.rows.items q.1 (h ∷ holidays) others) same_table q.3))
+
+pub one_easter : (known : Known) (easter : List Listed) (days others : List Selector) → AreEasterDays known easter days
+    → AreEasterDays known easter others → days ≡ others
+one_easter known [] days others p q = p ∙ sym q
+one_easter known (h ∷ easter) days others p q =
+    one_in [] p.0 (of_easter (h ∷ easter)) days others p.2
+    (subst (λ (y : KnownYears). AreDaysIn [] y (of_easter (h ∷ easter)) others) (same_some q.0 p.0 (sym q.1 ∙ p.1)) q.2)
+
+-- The own text of a rule stands for the same rules of hours.
+pub one_own : (known : Known) (from : HolidayRule) (one other : Hours) → IsOwnHours known from one
+    → IsOwnHours known from other → SameRules one.rules.items other.rules.items
+one_own known from one other p q =
+    let same = one_easter known from.easter.items p.easter q.easter p.are q.are in
+    dated_rules from.text.items (month_days from q.easter) one other
+    (subst (λ (l : List Selector). IsDatedHours from.text.items (month_days from l) one) same p.stands) q.stands

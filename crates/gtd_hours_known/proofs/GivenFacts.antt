@@ -7,8 +7,10 @@ use Rattle.gtd_hours_days.specs.declared.listed.Listed.{Listed}
 use Rattle.gtd_hours_holidays.specs.declared.holidays.Holidays.{Holidays}
 use Rattle.gtd_hours_holidays.specs.declared.known_years.KnownYears.{KnownYears}
 use Rattle.gtd_hours_holiday_rules.specs.declared.rules.HolidayRule.{HolidayRule}
-use Rattle.gtd_hours_known.specs.Given.{AreAllGiven, no_years, none_given, not_given, has_table, or_later}
-use Rattle.gtd_hours_known.specs.HolidayDays.{AreDaysOf}
+use Rattle.gtd_hours_known.specs.Given.{AreAllGiven, has_table, no_easter_years, no_years, none_given, not_given}
+use Rattle.gtd_hours_known.specs.Given.{or_later, rule_lacks}
+use Rattle.gtd_hours_known.specs.Easter.{AreEasterDays, of_easter}
+use Rattle.gtd_hours_known.specs.HolidayDays.{AreDaysIn, AreDaysOf}
 use Rattle.gtd_hours_known.specs.Needs.{first_need, need_of, unknown_fault}
 use Rattle.gtd_hours_known.specs.Rules.{AreGivenDays, IsDaysStop, IsGiven, IsRuleStop, first_place}
 use Rattle.gtd_hours_known.specs.declared.fault.KnownFault.{KnownFault}
@@ -18,7 +20,7 @@ use Rattle.gtd_hours_known.specs.declared.rules.RulesStop.{RulesStop}
 use Rattle.gtd_hours_known.specs.declared.rules.RulesStop.TheVariants as stop
 use Rattle.gtd_hours.specs.declared.hours.Selector.{Selector}
 
-none_of : (a b : Option KnownFault) → or_later a b ≡ None → (a ≡ None) × (b ≡ None)
+pub none_of : (a b : Option KnownFault) → or_later a b ≡ None → (a ≡ None) × (b ≡ None)
 none_of None b e = (refl, e)
 none_of (Some bad) b e = absurd cc
 
@@ -62,12 +64,40 @@ no_years_given known holidays places some none e =
     let bad : false ≡ true = subst (λ (o : Option KnownYears). IsSome o) e (is_given known holidays places some none).1 in
     absurd (false≢true bad)
 
+-- what is given for a rule is so for its days of Easter, and for its holidays
+pub rule_given : (known : Known) (rule : HolidayRule) → rule_lacks known rule ≡ None
+    → (no_easter_years known.years rule.easter.items rule.easter_places.items ≡ None)
+    × (none_given known rule.holidays.items rule.places.items ≡ None)
+rule_given known rule e =
+    none_of (no_easter_years known.years rule.easter.items rule.easter_places.items)
+    (none_given known rule.holidays.items rule.places.items) e
+
+pub years_for_easter : (years : Option KnownYears) (easter : List Listed) (places : List ℕ) → (length easter ≡ 0 → ⊥)
+    → no_easter_years years easter places ≡ None → years ≡ None → ⊥
+years_for_easter years [] places some none e = some refl
+years_for_easter years (h ∷ easter) places some none e =
+    let bad : false ≡ true = subst (λ (o : Option KnownYears). IsSome o) e (of_years years (first_place places) none) in
+    absurd (false≢true bad)
+
+pub easter_given : (known : Known) (years : KnownYears) (easter : List Listed) (days : List Selector)
+    → (length easter ≡ 0 → ⊥) → known.years ≡ Some years → AreDaysIn [] years (of_easter easter) days
+    → AreEasterDays known easter days
+easter_given known years [] days some given are = absurd (some refl)
+easter_given known years (h ∷ easter) days some given are = (years, given, are)
+
+pub found_easter : (known : Known) (years : KnownYears) (easter : List Listed) (read : Result (Vec Selector Global) RulesStop)
+    → (length easter ≡ 0 → ⊥) → known.years ≡ Some years
+    → IfOk read (λ days. AreDaysIn [] years (of_easter easter) days.items)
+    → IfOk read (λ days. AreEasterDays known easter days.items)
+found_easter known years easter (Ok days) some given are = easter_given known years easter days.items some given are
+found_easter known years easter (Err why) some given are = tt
+
 -- rules that need nothing have all that is given
 pub all_given : (known : Known) (rules : List HolidayRule) → first_need known rules ≡ None → AreAllGiven known rules
 all_given known [] e = tt
 all_given known (rule ∷ rules) e =
     let both = none_of (need_of known rule rules) (first_need known rules) e in
-    let own = none_of (none_given known rule.holidays.items rule.places.items) (unknown_fault rule rules) both.0 in
+    let own = none_of (rule_lacks known rule) (unknown_fault rule rules) both.0 in
     (own.0, all_given known rules both.1)
 
 -- ---- the days of a rule's holidays

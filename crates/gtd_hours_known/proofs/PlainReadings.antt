@@ -16,14 +16,15 @@ use Rattle.gtd_hours_loose.specs.declared.strict.StrictForm.{StrictForm}
 use Rattle.gtd_hours_loose_tokens.specs.declared.token.DayNames.{DayNames}
 use Rattle.gtd_hours_holiday_rules.specs.declared.rules.HolidayRule.{HolidayRule}
 use Rattle.gtd_hours_holiday_rules.specs.declared.text.HolidayText.{HolidayText}
-use Rattle.gtd_hours_known.specs.Given.{none_given, or_later}
+use Rattle.gtd_hours_holidays.specs.declared.known_years.KnownYears.{KnownYears}
+use Rattle.gtd_hours_known.specs.Easter.{AreEasterDays, IsOwnHours}
+use Rattle.gtd_hours_known.specs.Given.{no_easter_years, none_given, or_later, rule_lacks}
 use Rattle.gtd_hours_known.specs.Manners.{IsKnownLooseReading, IsKnownReadingIn, IsPlaced, mended, placed_holiday, placed_places}
 use Rattle.gtd_hours_known.specs.Manners.{strict}
 use Rattle.gtd_hours_known.specs.Marks.{HasMarks}
 use Rattle.gtd_hours_known.specs.Needs.{first_need, unknown_fault}
 use Rattle.gtd_hours_known.specs.Reading.{IsKnown, KnownStandsFor, listed, plain}
 use Rattle.gtd_hours_known.specs.Rules.{AreGivenDays, AreHolidayRules, IsHolidayRule, first_holiday, first_or}
-use Rattle.gtd_hours_known.specs.declared.fault.KnownFault.{KnownFault}
 use Rattle.gtd_hours_known.specs.declared.known.Known.{Known}
 use Rattle.gtd_hours_known.specs.declared.known.KnownHours.{KnownHours}
 
@@ -73,7 +74,7 @@ pub only_plain : (m : Manner) (known : Known) (text : List ℕ) (read : KnownHou
 only_plain manner.Strict known text read is stands = (only_stands known text read is stands.0, stands.1)
 only_plain (manner.Loose names) known text read is stands = only_loose names known text read is stands
 
--- ---- without holidays nothing needs to be known
+-- ---- without holidays and Easter nothing needs to be known
 
 no_first : (holidays : List Listed) (places : List ℕ) (later : Option ℕ) → first_or holidays places later ≡ None
     → (holidays ≡ []) × (later ≡ None)
@@ -85,12 +86,33 @@ same_days : (known other : Known) (holidays : List Listed) (days : List Selector
 same_days known other [] days none are = are
 same_days known other (h ∷ holidays) days none are = absurd cc
 
-same_rule : (known other : Known) (from : HolidayRule) (made : List Rule) → from.holidays.items ≡ []
+same_easter : (known other : Known) (easter : List Listed) (days : List Selector) → easter ≡ []
+    → AreEasterDays known easter days → AreEasterDays other easter days
+same_easter known other [] days none are = are
+same_easter known other (h ∷ easter) days none are = absurd cc
+
+same_own : (known other : Known) (from : HolidayRule) (hours : Hours) → from.easter.items ≡ []
+    → IsOwnHours known from hours → IsOwnHours other from hours
+same_own known other from hours none is = record {
+  easter = is.easter;
+  are = same_easter known other from.easter.items is.easter none is.are;
+  stands = is.stands;
+}
+
+-- a rule has neither Easter nor holidays, and those behind it have none
+no_holiday : (rule : HolidayRule) (rules : List HolidayRule) → first_holiday (rule ∷ rules) ≡ None
+    → (rule.easter.items ≡ []) × (rule.holidays.items ≡ []) × (first_holiday rules ≡ None)
+no_holiday rule rules none =
+    let own = no_first rule.easter.items rule.easter_places.items
+    (first_or rule.holidays.items rule.places.items (first_holiday rules)) none in
+    let more = no_first rule.holidays.items rule.places.items (first_holiday rules) own.1 in (own.0, more.0, more.1)
+
+same_rule : (known other : Known) (from : HolidayRule) (made : List Rule) → from.easter.items ≡ [] → from.holidays.items ≡ []
     → IsHolidayRule known from made → IsHolidayRule other from made
-same_rule known other from made none is = record {
+same_rule known other from made easter none is = record {
   plain = is.plain;
   days = is.days;
-  stands = is.stands;
+  own = same_own known other from is.plain easter is.own;
   listed = same_days known other from.holidays.items is.days none is.listed;
   are = is.are;
 }
@@ -99,23 +121,34 @@ same_rules : (known other : Known) (rules : List HolidayRule) (made : List Rule)
     → AreHolidayRules known rules made → AreHolidayRules other rules made
 same_rules known other [] made none are = are
 same_rules known other (rule ∷ rules) made none are =
-    let both = no_first rule.holidays.items rule.places.items (first_holiday rules) none in
-    (are.0, are.1, same_rule known other rule are.0 both.0 are.2, same_rules known other rules are.1 both.1 are.3, are.4)
+    let all = no_holiday rule rules none in
+    (are.0, are.1, same_rule known other rule are.0 all.0 all.1 are.2, same_rules known other rules are.1 all.2 are.3, are.4)
 
 same_given : (known other : Known) (holidays : List Listed) (places : List ℕ) → holidays ≡ []
     → none_given known holidays places ≡ none_given other holidays places
 same_given known other [] places none = refl
 same_given known other (h ∷ holidays) places none = absurd cc
 
+no_easter : (years other : Option KnownYears) (easter : List Listed) (places : List ℕ) → easter ≡ []
+    → no_easter_years years easter places ≡ no_easter_years other easter places
+no_easter years other [] places none = refl
+no_easter years other (h ∷ easter) places none = absurd cc
+
+same_lacks : (known other : Known) (rule : HolidayRule) → rule.easter.items ≡ [] → rule.holidays.items ≡ []
+    → rule_lacks known rule ≡ rule_lacks other rule
+same_lacks known other rule easter none =
+    let years = no_easter known.years other.years rule.easter.items rule.easter_places.items easter in
+    let given = same_given known other rule.holidays.items rule.places.items none in
+    λ i. or_later (years i) (given i)
+
 same_need : (known other : Known) (rules : List HolidayRule) → first_holiday rules ≡ None
     → first_need known rules ≡ first_need other rules
 same_need known other [] none = refl
 same_need known other (rule ∷ rules) none =
-    let both = no_first rule.holidays.items rule.places.items (first_holiday rules) none in
-    ap (λ (o : Option KnownFault). or_later (or_later o (unknown_fault rule rules)) (first_need known rules))
-    (same_given known other rule.holidays.items rule.places.items both.0)
-    ∙ ap (λ (o : Option KnownFault). or_later (or_later (none_given other rule.holidays.items rule.places.items)
-    (unknown_fault rule rules)) o) (same_need known other rules both.1)
+    let all = no_holiday rule rules none in
+    let here = same_lacks known other rule all.0 all.1 in
+    let later = same_need known other rules all.2 in
+    λ i. or_later (or_later (here i) (unknown_fault rule rules)) (later i)
 
 same_known : (known other : Known) (found : HolidayText) (hours : Hours) → first_holiday found.rules.items ≡ None
     → IsKnown known found hours → IsKnown other found hours

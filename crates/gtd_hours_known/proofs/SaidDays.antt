@@ -18,7 +18,8 @@ use Rattle.gtd_hours_holidays.specs.declared.known_years.KnownYears.{KnownYears}
 use Rattle.gtd_hours_holiday_rules.specs.declared.rules.HolidayRule.{HolidayRule}
 use Rattle.gtd_hours_known.specs.Joining.{has_weekdays, with_days}
 use Rattle.gtd_hours_known.specs.Rules.{AreGivenDays, HasHolidays, IsGiven, WithAny}
-use Rattle.gtd_hours_known.specs.Said.{EachHoldsOr, InSpansOf, IsHoliday, IsOnDayOf, MatchesBy, MatchesRule, MatchesWith, restricts}
+use Rattle.gtd_hours_known.specs.Said.{EachHoldsOr, InSpansOf, IsHoliday, IsOnDayOf, MatchesBy, MatchesRule}
+use Rattle.gtd_hours_known.specs.Said.{MatchesWith, restricts}
 use Rattle.gtd_hours_known.specs.declared.known.Known.{Known}
 use Rattle.gtd_hours_known.proofs.MatchFacts.{beside_matches, own_matches, same_matches}
 

@@ -10,16 +10,16 @@ use Rattle.gtd_hours.specs.declared.hours.Modifier.{Modifier}
 use Rattle.gtd_hours.specs.declared.hours.Modifier.TheVariants.{Closed, Open}
 use Rattle.gtd_hours.specs.declared.hours.Rule.{Rule}
 use Rattle.gtd_hours.specs.declared.hours.Selector.{Selector}
-use Rattle.gtd_hours_dated.specs.Dated.{IsDatedHours}
-use Rattle.gtd_hours_dated.specs.facts.SameDated.{dated_rules}
 use Rattle.gtd_hours_text.specs.facts.SameRules.{SameRule, SameRules}
 use Rattle.gtd_hours_holiday_rules.specs.declared.rules.HolidayRule.{HolidayRule}
 use Rattle.gtd_hours_holiday_rules.specs.declared.text.HolidayText.{HolidayText}
+use Rattle.gtd_hours_known.specs.Easter.{IsOwnHours}
 use Rattle.gtd_hours_known.specs.Reading.{IsKnown}
 use Rattle.gtd_hours_known.specs.Rules.{AreGivenDays, AreHolidayRules, AreSpoken, AreWithHolidays}
 use Rattle.gtd_hours_known.specs.Said.{AreOwnRules, ClosedAfter, InSpansOf, IsClosedThen, IsOnDayOf, IsOpenFrom, IsOpenThen}
 use Rattle.gtd_hours_known.specs.Said.{IsOwnRule, IsSaidOpen, OpenAfter}
 use Rattle.gtd_hours_known.specs.declared.known.Known.{Known}
+use Rattle.gtd_hours_known.proofs.ApartFacts.{one_own}
 use Rattle.gtd_hours_known.proofs.SaidDays.{made_of, match_of_same, same_match, same_spans, spans_of_same}
 
 -- ---- what a rule says, by its spans and days
@@ -168,11 +168,11 @@ one_of rule [] same = absurd same
 one_of rule (one ∷ []) same = record { one = one; is = refl; same = same.0 }
 one_of rule (one ∷ more ∷ rules) same = absurd same.1
 
-own_one : (from : HolidayRule) (rule : Rule) (hours : Hours) → IsOwnRule from rule
-    → IsDatedHours from.text.items from.dates.items hours → IsOne rule hours.rules.items
-own_one from rule hours own stands =
+own_one : (known : Known) (from : HolidayRule) (rule : Rule) (hours : Hours) → IsOwnRule known from rule
+    → IsOwnHours known from hours → IsOne rule hours.rules.items
+own_one known from rule hours own stands =
     one_of rule hours.rules.items (subst (λ (l : List Rule). SameRules l hours.rules.items) own.2
-    (dated_rules from.text.items from.dates.items own.0 hours own.1 stands))
+    (one_own known from own.0 hours own.1 stands))
 
 -- what the rule says that stands there is what its own rule says
 same_open : (u : Bool) (m n : Modifier) (l : Link) (S S' T T' P O C D : Type 0) → n ≡ m → (S ↔ S') → (T ↔ T') → (P ↔ O)
@@ -194,13 +194,13 @@ none_left [] P O C s e p = p
 none_left (rule ∷ rules) P O C s e p = absurd cc
 
 hours_say : (known : Known) (rules : List HolidayRule) (made own : List Rule) (P O C D : Type 0) (s : ℤ)
-    → AreHolidayRules known rules made → AreOwnRules rules own → (P ↔ O) → (C ↔ D)
+    → AreHolidayRules known rules made → AreOwnRules known rules own → (P ↔ O) → (C ↔ D)
     → IsOpenAfter made P C s ↔ IsOpenFrom known rules own O D s
 hours_say known [] made own P O C D s is owns p c = none_left made P O C s is p
 hours_say known (from ∷ rules) made [] P O C D s is owns p c = absurd owns
 hours_say known (from ∷ rules) made (rule ∷ own) P O C D s is owns p c =
     let u = is_some from.unknown in
-    let one = own_one from rule is.2.plain owns.0 is.2.stands in
+    let one = own_one known from rule is.2.plain owns.0 is.2.own in
     let spoken = subst (λ (l : List Rule). AreSpoken u from is.2.days l is.0) one.is is.2.are in
     let first = made_then u known from is.2.days one.one is.0 is.1 P C s is.2.listed spoken in
     let whole = subst (λ (l : List Rule). IsOpenAfter l P C s ↔ IsOpenAfter is.1
@@ -215,6 +215,6 @@ hours_say known (from ∷ rules) made (rule ∷ own) P O C D s is owns p c =
     (same_closed u rule.modifier one.one.modifier from.link _ _ _ _ P O C D (sym one.same.modifier) spans match p c))
 
 pub said : (known : Known) (found : HolidayText) (hours : Hours) (own : List Rule) → IsKnown known found hours
-    → AreOwnRules found.rules.items own → (s : ℤ) → IsOpen hours s ↔ IsSaidOpen known found.rules.items own s
+    → AreOwnRules known found.rules.items own → (s : ℤ) → IsOpen hours s ↔ IsSaidOpen known found.rules.items own s
 said known found hours own is owns s =
     hours_say known found.rules.items hours.rules.items own ⊥ ⊥ ⊥ ⊥ s is.rules owns (same_iff ⊥) (same_iff ⊥)

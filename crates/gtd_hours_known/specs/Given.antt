@@ -1,4 +1,4 @@
--- What the holidays of a text need and is not given: a table, and years.
+-- What the holidays and the days of Easter of a text need and is not given: a table, and years.
 use Rattle.std.specs.Prelude.{◌≡◌, ℕ, ◌&&◌, ◌||◌, Bool, true, false, if◌then◌else◌, List, [], ◌∷◌, drop, Option, Some, None}
 use Rattle.gtd_hours_days.specs.Listed.{kind_of}
 use Rattle.gtd_hours_days.specs.declared.listed.Listed.{Listed}
@@ -54,8 +54,18 @@ none_given known [] places = None
 none_given known (h ∷ holidays) places =
     or_later (not_given known h (first_place places)) (none_given known holidays (drop 1 places))
 
--- Nothing is missing for the holidays of each of some rules.
+-- no years are given for the first of some days of Easter at these places
+abbrev pub no_easter_years : Option KnownYears → List Listed → List ℕ → Option KnownFault
+no_easter_years years [] places = None
+no_easter_years years (h ∷ easter) places = no_years years (first_place places)
+
+-- What is not given for a rule: the years of its first Easter, or what its holidays need.
+abbrev pub rule_lacks : Known → HolidayRule → Option KnownFault
+rule_lacks known rule =
+    or_later (no_easter_years known.years rule.easter.items rule.easter_places.items)
+    (none_given known rule.holidays.items rule.places.items)
+
+-- Nothing is missing for each of some rules.
 abbrev pub AreAllGiven : Known → List HolidayRule → Type 0
 AreAllGiven known [] = Unit {0}
-AreAllGiven known (rule ∷ rules) =
-    (none_given known rule.holidays.items rule.places.items ≡ None) × AreAllGiven known rules
+AreAllGiven known (rule ∷ rules) = (rule_lacks known rule ≡ None) × AreAllGiven known rules

@@ -13,6 +13,7 @@ use Rattle.gtd_hours_days.specs.declared.selection.ListedFault.{ListedFault}
 use Rattle.gtd_hours_days.specs.declared.selection.ListedFault.TheVariants as fault
 use Rattle.gtd_hours_holidays.specs.declared.holidays.Holidays.{Holidays}
 use Rattle.gtd_hours_holidays.specs.declared.known_years.KnownYears.{KnownYears}
+use Rattle.gtd_hours_holidays.specs.declared.row.HolidayRow.{HolidayRow}
 use Rattle.gtd_hours_holidays.specs.declared.run.Run.{Run}
 
 -- the day of a date
@@ -25,13 +26,17 @@ AreApart from [] = Unit {0}
 AreApart from (Dated x ∷ days) = (from ≤ℤ date_day x.first) × AreApart (date_day x.last +ℤ pos 2) days
 AreApart from (x ∷ days) = ⊥
 
--- The table says all that the holidays need, and one of the selectors holds on a day exactly if one of the holidays does. The
+-- The rows say all that the holidays need, and one of the selectors holds on a day exactly if one of the holidays does. The
 -- selectors are ranges of dates: one for each run of consecutive days, in order.
-abbrev pub AreDaysOf : Holidays → KnownYears → List Listed → List Selector → Type 0
-AreDaysOf table years listed days =
-    CoversAll table.rows.items years listed
-    × ((n : ℤ) (f : DayFields) → SomeHolds days n f ↔ SomeListed table.rows.items years listed n)
+abbrev pub AreDaysIn : List HolidayRow → KnownYears → List Listed → List Selector → Type 0
+AreDaysIn rows years listed days =
+    CoversAll rows years listed
+    × ((n : ℤ) (f : DayFields) → SomeHolds days n f ↔ SomeListed rows years listed n)
     × AreApart first_calendar_day days
+
+-- and so the rows of a table
+abbrev pub AreDaysOf : Holidays → KnownYears → List Listed → List Selector → Type 0
+AreDaysOf table years listed days = AreDaysIn table.rows.items years listed days
 
 -- why there are none: the table does not say all, or memory was refused
 abbrev pub IsDaysFault : Holidays → KnownYears → List Listed → ListedFault → Type 0

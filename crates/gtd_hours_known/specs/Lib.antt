@@ -1,5 +1,6 @@
 pub mod HolidayDays
 pub mod Joining
+pub mod Easter
 pub mod Rules
 pub mod Given
 pub mod Needs

@@ -3,7 +3,7 @@ use Rattle.std.specs.Prelude.{ℕ, ◌+◌, ◌&&◌, ◌||◌, not, Bool, false
 use Rattle.std.specs.Prelude.{Option, Some, None, is_some}
 use Rattle.gtd_hours.specs.Writable.{is_fallback}
 use Rattle.gtd_hours_holiday_rules.specs.declared.rules.HolidayRule.{HolidayRule}
-use Rattle.gtd_hours_known.specs.Given.{none_given, or_later}
+use Rattle.gtd_hours_known.specs.Given.{or_later, rule_lacks}
 use Rattle.gtd_hours_known.specs.declared.fault.KnownFault.{KnownFault}
 use Rattle.gtd_hours_known.specs.declared.fault.KnownFault.TheVariants as fault
 use Rattle.gtd_hours_known.specs.declared.known.Known.{Known}
@@ -34,8 +34,7 @@ unknown_fault rule later = unknown_before rule (some_falls_back later)
 
 -- what a rule needs before others
 abbrev pub need_of : Known → HolidayRule → List HolidayRule → Option KnownFault
-need_of known rule later =
-    or_later (none_given known rule.holidays.items rule.places.items) (unknown_fault rule later)
+need_of known rule later = or_later (rule_lacks known rule) (unknown_fault rule later)
 
 -- the first need of rules
 abbrev pub first_need : Known → List HolidayRule → Option KnownFault
@@ -53,5 +52,4 @@ up_to_fallback (rule ∷ rules) =
     else 0
 
 abbrev pub need_before : Known → HolidayRule → Bool → Option KnownFault
-need_before known rule falls_later =
-    or_later (none_given known rule.holidays.items rule.places.items) (unknown_before rule falls_later)
+need_before known rule falls_later = or_later (rule_lacks known rule) (unknown_before rule falls_later)

@@ -7,7 +7,6 @@ use Rattle.gtd_hours.specs.declared.hours.Rule.{Rule}
 use Rattle.gtd_hours.specs.declared.hours.Selector.{Selector}
 use Rattle.gtd_hours_grammar.specs.Faults.{IsFirstFault}
 use Rattle.gtd_hours_grammar.specs.declared.fault.HoursFault.{HoursFault}
-use Rattle.gtd_hours_dated.specs.Dated.{IsDatedHours}
 use Rattle.gtd_hours_days.specs.Listed.{CoversAll, IsUncovered}
 use Rattle.gtd_hours_days.specs.declared.listed.Listed.{Listed}
 use Rattle.gtd_hours_days.specs.declared.selection.ListedFault.{ListedFault}
@@ -16,6 +15,7 @@ use Rattle.gtd_hours_holidays.specs.declared.holidays.Holidays.{Holidays}
 use Rattle.gtd_hours_holidays.specs.declared.known_years.KnownYears.{KnownYears}
 use Rattle.gtd_hours_holiday_rules.specs.declared.rules.HolidayRule.{HolidayRule}
 use Rattle.gtd_hours_loose.specs.Reading.{IsStrict}
+use Rattle.gtd_hours_known.specs.Easter.{IsOwnHours}
 use Rattle.gtd_hours_known.specs.HolidayDays.{AreDaysOf}
 use Rattle.gtd_hours_known.specs.Joining.{IsWithDays}
 use Rattle.gtd_hours_known.specs.declared.known.Known.{Known}
@@ -34,10 +34,11 @@ abbrev pub first_or : List Listed → List ℕ → Option ℕ → Option ℕ
 first_or [] places later = later
 first_or (h ∷ holidays) places later = Some (first_place places)
 
--- where the first holiday of the first rule that has one stands
+-- where the first Easter or else the first holiday of the first rule that has one stands
 abbrev pub first_holiday : List HolidayRule → Option ℕ
 first_holiday [] = None
-first_holiday (rule ∷ rules) = first_or rule.holidays.items rule.places.items (first_holiday rules)
+first_holiday (rule ∷ rules) =
+    first_or rule.easter.items rule.easter_places.items (first_or rule.holidays.items rule.places.items (first_holiday rules))
 
 -- ---- the own texts of rules
 
@@ -97,7 +98,7 @@ AreSpoken false from days plain made = AreWithHolidays from days plain made
 pub record IsHolidayRule (known : Known) (from : HolidayRule) (made : List Rule) : Type 0 where
   pub plain : Hours
   pub days : List Selector
-  pub stands : IsDatedHours from.text.items from.dates.items plain
+  pub own : IsOwnHours known from plain
   pub listed : AreGivenDays known from.holidays.items days
   pub are : AreSpoken (is_some from.unknown) from days plain.rules.items made
 

@@ -13,12 +13,12 @@ use Rattle.gtd_hours.specs.declared.hours.Link.TheVariants.{Also, Fallback, Inst
 use Rattle.gtd_hours.specs.declared.hours.Modifier.{Modifier}
 use Rattle.gtd_hours.specs.declared.hours.Modifier.TheVariants.{Closed, Open}
 use Rattle.gtd_hours.specs.declared.hours.Rule.{Rule}
-use Rattle.gtd_hours_dated.specs.Dated.{IsDatedHours}
 use Rattle.gtd_hours_days.specs.Listed.{SomeListed}
 use Rattle.gtd_hours_days.specs.declared.listed.Listed.{Listed}
 use Rattle.gtd_hours_holidays.specs.declared.holidays.Holidays.{Holidays}
 use Rattle.gtd_hours_holidays.specs.declared.known_years.KnownYears.{KnownYears}
 use Rattle.gtd_hours_holiday_rules.specs.declared.rules.HolidayRule.{HolidayRule}
+use Rattle.gtd_hours_known.specs.Easter.{IsOwnHours}
 use Rattle.gtd_hours_known.specs.Joining.{has_weekdays}
 use Rattle.gtd_hours_known.specs.Rules.{IsGiven}
 use Rattle.gtd_hours_known.specs.declared.known.Known.{Known}
@@ -98,15 +98,14 @@ ClosedAfter known from rule WasOpen WasClosed s =
 -- ---- what all rules say
 
 -- The own text of a rule and its other month days stand for this one.
-abbrev pub IsOwnRule : HolidayRule → Rule → Type 0
-IsOwnRule from rule =
-    (hours : Hours) × IsDatedHours from.text.items from.dates.items hours × (hours.rules.items ≡ rule ∷ [])
+abbrev pub IsOwnRule : Known → HolidayRule → Rule → Type 0
+IsOwnRule known from rule = (hours : Hours) × IsOwnHours known from hours × (hours.rules.items ≡ rule ∷ [])
 
 -- and so for each rule
-abbrev pub AreOwnRules : List HolidayRule → List Rule → Type 0
-AreOwnRules [] [] = Unit {0}
-AreOwnRules (from ∷ rules) (rule ∷ own) = IsOwnRule from rule × AreOwnRules rules own
-AreOwnRules rules own = ⊥
+abbrev pub AreOwnRules : Known → List HolidayRule → List Rule → Type 0
+AreOwnRules known [] [] = Unit {0}
+AreOwnRules known (from ∷ rules) (rule ∷ own) = IsOwnRule known from rule × AreOwnRules known rules own
+AreOwnRules known rules own = ⊥
 
 -- the second is open after the rules one after another
 abbrev pub IsOpenFrom : Known → List HolidayRule → List Rule → Type 0 → Type 0 → ℤ → Type 0

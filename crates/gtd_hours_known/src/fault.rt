@@ -25,7 +25,7 @@ pub enum KnownFault {
         /// The number of bytes before the first holiday for which something is not given.
         place: usize,
     },
-    /// There is a table for the holiday, but the years are not given in which holidays are known.
+    /// It is Easter, or there is a table for the holiday, but the years are not given in which holidays are known.
     #[error("Years at {place}")]
     Years {
         /// The number of bytes before the first holiday for which something is not given.

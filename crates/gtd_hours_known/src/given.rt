@@ -1,14 +1,15 @@
-//! What the holidays of a text need and is not given: a table, and years.
+//! What the holidays and the days of Easter of a text need and is not given: a table, and years.
 
 ghost use Rattle.std.specs.Prelude.{◌≡◌, drop};
 ghost use Rattle.gtd_hours_days.specs.Listed.{kind_of};
 ghost use Rattle.gtd_hours_known.specs.Given.{covers, covers_some, has_table, is_kind, no_years, none_given};
-ghost use Rattle.gtd_hours_known.specs.Given.{not_given};
+ghost use Rattle.gtd_hours_known.specs.Given.{no_easter_years, not_given, rule_lacks};
 ghost use Rattle.gtd_hours_known.specs.Rules.{first_place};
 
 use crate::fault::KnownFault;
 use crate::known::Known;
 use gtd_hours_days::Listed;
+use gtd_hours_holiday_rules::HolidayRule;
 use gtd_hours_holidays::{HolidayKind, HolidayRow, Holidays, KnownYears};
 
 /// The first of some places.
@@ -103,9 +104,9 @@ fn not_given(known: &Known, holiday: Listed, place: usize) -> Option<KnownFault>
     }
 }
 
-/// What is not given for the first of some holidays at these places for which something is not: a table of such holidays, or
-/// else the years.
-pub(crate) fn none_given(known: &Known, holidays: &[Listed], places: &[usize]) -> Option<KnownFault>
+// What is not given for the first of some holidays at these places for which something is not: a table of such holidays, or
+// else the years.
+fn none_given(known: &Known, holidays: &[Listed], places: &[usize]) -> Option<KnownFault>
     ensures { result ≡ none_given known.now holidays.now places.now }
 {
     let mut rest = holidays;
@@ -118,4 +119,29 @@ pub(crate) fn none_given(known: &Known, holidays: &[Listed], places: &[usize]) -
         at = later_places(at);
     }
     None
+}
+
+// A fault at the first of some days of Easter at these places, if no years are given.
+fn no_easter_years(
+    years: Option<KnownYears>,
+    easter: &[Listed],
+    places: &[usize],
+) -> Option<KnownFault>
+    ensures { result ≡ no_easter_years years easter.now places.now }
+{
+    if easter.is_empty() {
+        return None;
+    }
+    no_years(years, first_place(places))
+}
+
+/// What is not given for a rule: the years of its first Easter, or what its holidays need.
+pub(crate) fn rule_lacks(known: &Known, rule: &HolidayRule) -> Option<KnownFault>
+    ensures { result ≡ rule_lacks known.now rule.now }
+{
+    let easter = rule.easter.as_slice();
+    if let Some(bad) = no_easter_years(known.years, easter, rule.easter_places.as_slice()) {
+        return Some(bad);
+    }
+    none_given(known, rule.holidays.as_slice(), rule.places.as_slice())
 }

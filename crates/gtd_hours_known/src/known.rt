@@ -9,7 +9,7 @@ use gtd_hours_loose::StrictForm;
 pub struct Known {
     /// The table of holidays, if there is one.
     pub holidays: Option<Holidays>,
-    /// The years in which holidays are known, if they are given.
+    /// The years in which holidays and Easter are known, if they are given.
     pub years: Option<KnownYears>,
 }
 
@@ -20,7 +20,7 @@ pub struct KnownHours {
     pub hours: Hours,
     /// The strict form of the text, if it was read by that.
     pub form: Option<StrictForm>,
-    /// The number of bytes before the first holiday, if the text has one.
+    /// The number of bytes before the first Easter, or else the first holiday, of the first rule that has one.
     pub first_holiday: Option<usize>,
     /// The number of bytes before each comment on an open rule without a word that says that it is open.
     pub remarks: Vec<usize>,

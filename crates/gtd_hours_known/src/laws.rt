@@ -61,9 +61,10 @@ pub fn plain_readings()
 {}
 
 /// Hours that are read of a text with holidays, comments, unknown and fallback rules are open at a second exactly if its rules
-/// say so, with the holidays of the table in the years: for every second over all time, and whichever own rules its rules have.
+/// say so, with Easter and the holidays of the table in the years: for every second over all time, and whichever own rules its
+/// rules have.
 pub fn said_by_rules()
     ensures seconds { (known : Known) (text : List ℕ) (found : HolidayText) (hours : Hours) (own : List Rule)
-        → IsHolidayText text found → IsKnown known found hours → AreOwnRules found.rules.items own
+        → IsHolidayText text found → IsKnown known found hours → AreOwnRules known found.rules.items own
         → (second : ℤ) → IsOpen hours second ↔ IsSaidOpen known found.rules.items own second }
 {}

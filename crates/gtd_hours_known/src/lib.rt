@@ -7,6 +7,7 @@
 
 mod checks;
 mod dates;
+mod easter;
 mod fault;
 mod given;
 mod joining;

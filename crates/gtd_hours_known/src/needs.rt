@@ -5,7 +5,7 @@ ghost use Rattle.gtd_hours.specs.Writable.{is_fallback};
 ghost use Rattle.gtd_hours_known.specs.Needs.{falls_back, first_need, need_before, not_known, unknown_before, up_to_fallback};
 
 use crate::fault::KnownFault;
-use crate::given::none_given;
+use crate::given::rule_lacks;
 use crate::known::Known;
 use gtd_hours::Link;
 use gtd_hours_holiday_rules::HolidayRule;
@@ -68,7 +68,7 @@ fn unknown_before(rule: &HolidayRule, falls_later: bool) -> Option<KnownFault>
 fn need_before(known: &Known, rule: &HolidayRule, falls_later: bool) -> Option<KnownFault>
     ensures { result ≡ need_before known.now rule.now falls_later }
 {
-    if let Some(bad) = none_given(known, rule.holidays.as_slice(), rule.places.as_slice()) {
+    if let Some(bad) = rule_lacks(known, rule) {
         return Some(bad);
     }
     unknown_before(rule, falls_later)

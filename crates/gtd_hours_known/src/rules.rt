@@ -6,21 +6,18 @@ ghost use Rattle.gtd_hours_days.specs.declared.listed.Listed.{Listed};
 ghost use Rattle.gtd_hours_holidays.specs.declared.holidays.Holidays.{Holidays};
 ghost use Rattle.gtd_hours_holidays.specs.declared.known_years.KnownYears.{KnownYears};
 ghost use Rattle.gtd_hours_known.specs.HolidayDays.{AreDaysOf, IsDaysFault};
-ghost use Rattle.gtd_hours_known.specs.Given.{AreAllGiven, none_given};
+ghost use Rattle.gtd_hours_known.specs.Given.{AreAllGiven, none_given, rule_lacks};
 ghost use Rattle.gtd_hours_known.specs.Rules.{AreAllStrict, AreGivenDays, AreHolidayRules, AreSpoken, AreWithHolidays};
 ghost use Rattle.gtd_hours_known.specs.Rules.{HasHolidays, IsDaysStop, IsHolidayRule, IsRuleStop, IsRulesStop, IsStopAt};
-ghost use Rattle.gtd_hours_known.specs.declared.rules.RulesStop.TheVariants as stop;
-ghost use Rattle.gtd_hours_dated.specs.Dated.{IsDatedHours};
 
+use crate::easter::own_hours;
 use crate::joining::with_days;
 use crate::known::Known;
 use crate::selectors::listed_selectors;
 use gtd_hours::{Hours, Rule, Selector};
-use gtd_hours_dated::read_dated_hours;
 use gtd_hours_days::ListedFault;
 use gtd_hours_holiday_rules::HolidayRule;
 use gtd_hours_holidays::{Holidays, KnownYears};
-use gtd_hours_text::HoursTextFault;
 use std::alloc::{AllocError, Global};
 
 /// Why rules with holidays have no hours.
@@ -45,21 +42,6 @@ impl From<AllocError> for RulesStop {
 
     fn from(_: AllocError) -> RulesStop {
         RulesStop::NoMemory
-    }
-}
-
-// The hours that the own text of a rule stands for, with its other month days.
-fn plain_hours(alloc: Global, text: &[u8], dates: &[Selector]) -> Result<Hours, RulesStop>
-    requires { IsStrict text.now }
-    ensures hours { IfOk result (λ hours. IsDatedHours text.now dates.now hours) }
-    ensures stop { IfErr result (λ why. why ≡ stop.NoMemory) }
-{
-    match read_dated_hours(alloc, text, dates) {
-        Ok(hours) => Ok(hours),
-        Err(why) => match why {
-            HoursTextFault::NoMemory => Err(RulesStop::NoMemory),
-            HoursTextFault::Fault(_) => unreachable!(),
-        },
     }
 }
 
@@ -180,11 +162,11 @@ fn spoken(
 // The rules of hours that a rule of the text stands for.
 fn rules_of(alloc: Global, from: &HolidayRule, known: &Known) -> Result<Vec<Rule>, RulesStop>
     requires strict { IsStrict from.now.text.items }
-    requires given { none_given known.now from.now.holidays.items from.now.places.items ≡ None }
+    requires given { rule_lacks known.now from.now ≡ None }
     ensures rules { IfOk result (λ made. IsHolidayRule known.now from.now made.items) }
     ensures stop { IfErr result (IsRuleStop known.now from.now) }
 {
-    let plain = plain_hours(alloc, from.text.as_slice(), from.dates.as_slice())?;
+    let plain = own_hours(alloc, from, known)?;
     let days = holiday_days(alloc, from, known)?;
     let made = spoken(alloc, from, plain.rules, days.as_slice())?;
     Ok(made)

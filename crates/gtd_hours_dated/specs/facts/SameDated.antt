@@ -1,5 +1,5 @@
 -- Hours of the same text with the same month days are of the same rules.
-use Rattle.std.proofs.Common.{◌∙◌, ap, sym, ℕ, List, [], ◌∷◌}
+use Rattle.std.proofs.Common.{◌∙◌, ap, sym, ℕ, List, [], ◌∷◌, Option, Some, None}
 use Rattle.gtd_hours.specs.declared.hours.Hours.{Hours}
 use Rattle.gtd_hours.specs.declared.hours.Rule.{Rule}
 use Rattle.gtd_hours.specs.declared.hours.Selector.{Selector}
@@ -29,9 +29,9 @@ all_dated dates (a ∷ ps) (b ∷ qs) (x ∷ xs) (y ∷ ys) same p q =
     (same_dated dates a b x y same.0 p.0 q.0, all_dated dates ps qs xs ys same.1 p.1 q.1)
 
 -- the rules of hours that a text stands for with these month days
-pub dated_rules : (text : List ℕ) (dates : List Selector) (one other : Hours) → IsDatedHours text dates one
+pub dated_rules : (text : List ℕ) (dates : Option (List Selector)) (one other : Hours) → IsDatedHours text dates one
     → IsDatedHours text dates other → SameRules one.rules.items other.rules.items
-dated_rules text [] one other p q = same_rules text one other p q
-dated_rules text (d ∷ dates) one other p q =
-    all_dated (d ∷ dates) p.0.rules.items q.0.rules.items one.rules.items other.rules.items
+dated_rules text None one other p q = same_rules text one other p q
+dated_rules text (Some dates) one other p q =
+    all_dated dates p.0.rules.items q.0.rules.items one.rules.items other.rules.items
     (same_rules text p.0 q.0 p.1 q.1) p.2 q.2

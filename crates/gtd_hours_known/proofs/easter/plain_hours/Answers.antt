@@ -4,7 +4,7 @@ use Rattle.gtd_hours_grammar.specs.facts.FirstFault.{hours_or_fault}
 use Rattle.gtd_hours_text.specs.Reading.{IsFaultOf}
 use Rattle.gtd_hours_text.specs.declared.reader.HoursTextFault.{HoursTextFault}
 use Rattle.gtd_hours_text.specs.declared.reader.HoursTextFault.TheVariants as text_fault
-use Rattle.gtd_hours_known.proofs.rules.plain_hours.Goals as goal
+use Rattle.gtd_hours_known.proofs.easter.plain_hours.Goals as goal
 
 pub unreachable-requires : goal.unreachable-requires
 unreachable-requires c =

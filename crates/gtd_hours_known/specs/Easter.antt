@@ -1,0 +1,40 @@
+-- The month days of a rule that are not in its own text: ranges that move, and days of Easter, which are known in some years
+-- alone.
+use Rattle.std.specs.Prelude.{◌≡◌, List, [], ◌∷◌, ◌++◌, Option, Some, None}
+use Rattle.gtd_hours.specs.declared.hours.Hours.{Hours}
+use Rattle.gtd_hours.specs.declared.hours.Selector.{Selector}
+use Rattle.gtd_hours_dated.specs.Dated.{IsDatedHours}
+use Rattle.gtd_hours_days.specs.declared.listed.Listed.{Listed}
+use Rattle.gtd_hours_days.specs.declared.listed.Listed.TheVariants.{Easter}
+use Rattle.gtd_hours_holidays.specs.declared.known_years.KnownYears.{KnownYears}
+use Rattle.gtd_hours_holiday_rules.specs.declared.rules.HolidayRule.{HolidayRule}
+use Rattle.gtd_hours_known.specs.HolidayDays.{AreDaysIn}
+use Rattle.gtd_hours_known.specs.declared.known.Known.{Known}
+
+-- those that are so many days after Easter Sunday
+abbrev pub of_easter : List Listed → List Listed
+of_easter [] = []
+of_easter (Easter offset ∷ listed) = Easter offset ∷ of_easter listed
+of_easter (h ∷ listed) = of_easter listed
+
+-- The days of Easter in the years, of which a table says nothing. Where there is none of them, no years need be given.
+abbrev pub AreEasterDays : Known → List Listed → List Selector → Type 0
+AreEasterDays known [] days = days ≡ []
+AreEasterDays known (h ∷ easter) days =
+    (years : KnownYears) × (known.years ≡ Some years) × AreDaysIn [] years (of_easter (h ∷ easter)) days
+
+-- ranges that move, and the days of Easter, if there is one of either
+abbrev pub more_days : List Selector → List Listed → List Selector → Option (List Selector)
+more_days [] [] days = None
+more_days [] (h ∷ easter) days = Some days
+more_days (x ∷ dates) easter days = Some ((x ∷ dates) ++ days)
+
+-- the month days of a rule that are not in its own text, with these days of Easter
+abbrev pub month_days : HolidayRule → List Selector → Option (List Selector)
+month_days from days = more_days from.dates.items from.easter.items days
+
+-- The own text of a rule, with its other month days, stands for these hours.
+pub record IsOwnHours (known : Known) (from : HolidayRule) (hours : Hours) : Type 0 where
+  pub easter : List Selector
+  pub are : AreEasterDays known from.easter.items easter
+  pub stands : IsDatedHours from.text.items (month_days from easter) hours

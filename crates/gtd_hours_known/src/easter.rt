@@ -1,0 +1,137 @@
+//! The hours of a rule's own text with its other month days: ranges that move, and Easter.
+
+ghost use Rattle.std.specs.Prelude.{◌≡◌, ◌++◌, [], IfErr, IfOk, None, Some};
+ghost use Rattle.gtd_hours_dated.specs.Dated.{IsDatedHours};
+ghost use Rattle.gtd_hours_loose.specs.Reading.{IsStrict};
+ghost use Rattle.gtd_hours_known.specs.Easter.{AreEasterDays, IsOwnHours, month_days, of_easter};
+ghost use Rattle.gtd_hours_known.specs.Given.{rule_lacks};
+ghost use Rattle.gtd_hours_known.specs.HolidayDays.{AreDaysIn};
+ghost use Rattle.gtd_hours_known.specs.declared.rules.RulesStop.TheVariants as stop;
+
+use crate::known::Known;
+use crate::rules::RulesStop;
+use crate::selectors::listed_selectors;
+use gtd_hours::{Hours, Selector};
+use gtd_hours_dated::read_dated_hours;
+use gtd_hours_days::{Listed, ListedFault};
+use gtd_hours_holiday_rules::HolidayRule;
+use gtd_hours_holidays::{Holidays, KnownYears};
+use gtd_hours_text::{HoursTextFault, read_hours};
+use std::alloc::{AllocError, Global};
+
+// Those that are so many days after Easter Sunday.
+fn of_easter(alloc: Global, listed: &[Listed]) -> Result<Vec<Listed>, AllocError>
+    ensures { IfOk result (λ easter. easter.items ≡ of_easter listed.now) }
+{
+    let mut easter = Vec::new(alloc);
+    let mut rest = listed;
+    while let Some((one, more)) = rest.split_first() {
+        if let Listed::Easter { offset } = *one {
+            easter.push(Listed::Easter { offset })?;
+        }
+        rest = more;
+    }
+    Ok(easter)
+}
+
+// Their days in the years, of which a table says nothing.
+fn days_in(alloc: Global, years: KnownYears, listed: &[Listed]) -> Result<Vec<Selector>, RulesStop>
+    ensures days { IfOk result (λ days. AreDaysIn [] years (of_easter listed.now) days.items) }
+    ensures stop { IfErr result (λ why. why ≡ stop.NoMemory) }
+{
+    let easter = of_easter(alloc, listed)?;
+    let table = Holidays {
+        rows: Vec::new(alloc),
+    };
+    match listed_selectors(alloc, &table, years, easter.as_slice()) {
+        Ok(days) => Ok(days),
+        Err(why) => match why {
+            ListedFault::Uncovered(_) => unreachable!(),
+            ListedFault::TooMany { needed: _ } => unreachable!(),
+            ListedFault::NoMemory => Err(RulesStop::NoMemory),
+        },
+    }
+}
+
+// The days of Easter of a rule, for which the years are given.
+fn easter_days(alloc: Global, from: &HolidayRule, known: &Known) -> Result<Vec<Selector>, RulesStop>
+    requires { rule_lacks known.now from.now ≡ None }
+    ensures days { IfOk result (λ days. AreEasterDays known.now from.now.easter.items days.items) }
+    ensures stop { IfErr result (λ why. why ≡ stop.NoMemory) }
+{
+    if from.easter.is_empty() {
+        return Ok(Vec::new(alloc));
+    }
+    match known.years {
+        None => unreachable!(),
+        Some(years) => days_in(alloc, years, from.easter.as_slice()),
+    }
+}
+
+// The selectors of one list and of another.
+fn both(alloc: Global, one: &[Selector], other: &[Selector]) -> Result<Vec<Selector>, AllocError>
+    ensures { IfOk result (λ all. all.items ≡ one.now ++ other.now) }
+{
+    let mut all = Vec::new(alloc);
+    all.extend_from_slice(one)?;
+    all.extend_from_slice(other)?;
+    Ok(all)
+}
+
+// The hours that a text of plain hours stands for.
+fn plain_hours(alloc: Global, text: &[u8]) -> Result<Hours, RulesStop>
+    requires { IsStrict text.now }
+    ensures hours { IfOk result (λ hours. IsDatedHours text.now None hours) }
+    ensures stop { IfErr result (λ why. why ≡ stop.NoMemory) }
+{
+    match read_hours(alloc, text) {
+        Ok(hours) => Ok(hours),
+        Err(why) => match why {
+            HoursTextFault::NoMemory => Err(RulesStop::NoMemory),
+            HoursTextFault::Fault(_) => unreachable!(),
+        },
+    }
+}
+
+// The hours that it stands for with more month days.
+fn dated_hours(alloc: Global, text: &[u8], dates: &[Selector]) -> Result<Hours, RulesStop>
+    requires { IsStrict text.now }
+    ensures hours { IfOk result (λ hours. IsDatedHours text.now (Some dates.now) hours) }
+    ensures stop { IfErr result (λ why. why ≡ stop.NoMemory) }
+{
+    match read_dated_hours(alloc, text, dates) {
+        Ok(hours) => Ok(hours),
+        Err(why) => match why {
+            HoursTextFault::NoMemory => Err(RulesStop::NoMemory),
+            HoursTextFault::Fault(_) => unreachable!(),
+        },
+    }
+}
+
+// The hours that the own text of a rule stands for, with its other month days, of which these are the days of Easter.
+fn hours_with(alloc: Global, from: &HolidayRule, easter: &[Selector]) -> Result<Hours, RulesStop>
+    requires { IsStrict from.now.text.items }
+    ensures hours { IfOk result (λ hours. IsDatedHours from.now.text.items (month_days from.now easter.now) hours) }
+    ensures stop { IfErr result (λ why. why ≡ stop.NoMemory) }
+{
+    if from.dates.is_empty() && from.easter.is_empty() {
+        return plain_hours(alloc, from.text.as_slice());
+    }
+    let dates = both(alloc, from.dates.as_slice(), easter)?;
+    dated_hours(alloc, from.text.as_slice(), dates.as_slice())
+}
+
+/// The hours that the own text of a rule stands for, with its other month days.
+pub(crate) fn own_hours(
+    alloc: Global,
+    from: &HolidayRule,
+    known: &Known,
+) -> Result<Hours, RulesStop>
+    requires strict { IsStrict from.now.text.items }
+    requires given { rule_lacks known.now from.now ≡ None }
+    ensures hours { IfOk result (IsOwnHours known.now from.now) }
+    ensures stop { IfErr result (λ why. why ≡ stop.NoMemory) }
+{
+    let easter = easter_days(alloc, from, known)?;
+    hours_with(alloc, from, easter.as_slice())
+}
