@@ -5,6 +5,7 @@ fault a text has, and at which seconds its hours are open.
 Minutes of a day are numbered from 00:00; seconds from 1970-01-01T00:00:00 of the local civil clock, as in tests/model.py."""
 import calendar
 import datetime
+import functools
 import re
 from typing import NamedTuple
 
@@ -376,6 +377,7 @@ def holds(selector, date):
     return date.isoweekday() == first and (before + 6) // 7 == last
 
 
+@functools.cache
 def end_in(end, year):
     """The day of an end of a range that moves in a year: a month and a day; or a month, a weekday, its place, whether it is counted
     back, and how many days after it."""
