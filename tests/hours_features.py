@@ -1,7 +1,7 @@
 #!/usr/bin/env python3
-"""The table of features in docs/HOURS.md beside the built program `gtdesk hours`: each example is read, read by an option and refused
-without it, or refused, with the kind of fault that the table names. Run it after `rt ci`, which builds the programs; GTDESK in the
-environment names another one.
+"""The table of features in docs/HOURS.md beside the built program `gtdesk hours`: each example is read, read by an option and
+refused without it, or refused, with the kind of fault that the table names. Run it after `rt ci`, which builds the programs; GTDESK
+in the environment names another one.
 
 Usage: tests/hours_features.py
 """
@@ -24,7 +24,8 @@ def rows():
     for line in section.splitlines():
         if line.startswith("| ") and not line.startswith("| Feature"):
             feature, examples, said = (cell.strip() for cell in line.strip("|").split(" | "))
-            yield feature, [html.unescape(found[0] or found[1]) for found in re.findall(r"`([^`]*)`|<code>(.*?)</code>", examples)], said
+            found = re.findall(r"`([^`]*)`|<code>(.*?)</code>", examples)
+            yield feature, [html.unescape(plain or written) for plain, written in found], said
 
 
 def answer(text, options):

@@ -368,7 +368,8 @@ def holds(selector, date):
     if kind == "dated":
         return first <= date <= last
     if kind == "moving":
-        return any(end_in(first, year) <= date <= end_in(last, year + selector[3]) for year in range(date.year - 2, date.year + 2))
+        years = range(date.year - 2, date.year + 2)
+        return any(end_in(first, year) <= date <= end_in(last, year + selector[3]) for year in years)
     if kind == "weekdays":
         return is_round(first, last, date.isoweekday())
     if kind == "moved":
@@ -379,8 +380,8 @@ def holds(selector, date):
 
 @functools.cache
 def end_in(end, year):
-    """The day of an end of a range that moves in a year: a month and a day; or a month, a weekday, its place, whether it is counted
-    back, and how many days after it."""
+    """The day of an end of a range that moves in a year: a month and a day; or a month, a weekday, its place, whether it is
+    counted back, and how many days after it."""
     month = end[0]
     if len(end) == 2:
         return datetime.date(year, *end)

@@ -121,7 +121,7 @@ class Reader(hours_model.Reader):
         return [("moving", first, last, over, "months")]
 
     def moving_dates(self, year, first, given, last):
-        """The range of dates in a year. Without a year of its own the last is of the next one if it would come before the first."""
+        """The range of dates in a year. Without a year of its own the last is of the next one if else it would come first."""
         begin = hours_model.end_in(first, year)
         if given is None and len(last) == 2:
             given = year + (last < (begin.month, begin.day))

@@ -1,11 +1,12 @@
 #!/usr/bin/env python3
 """The built program `gtdesk hours` with all its options beside the plain models of hours and of domains.
 
-For each row of moving.csv, easter.csv, remarks.csv and moments.csv in tests/hours, the domain that is printed contains the
-same minutes of four years as the hours by tests/wider_model.py, and as the domain beside them, and its warnings are told; or its
-fault is. Then, for SECONDS, drawn texts, tables, years and options: rules with holidays, moments and comments, unknown rules and fallback rules. The
-domains are compared at the first and the last minutes of stretches and at random seconds, and the faults of texts that are damaged
-or for which not all is given. Run it after `rt ci`, which builds the programs; GTDESK in the environment names another one.
+For each row of moving.csv, easter.csv, remarks.csv and moments.csv in tests/hours, the domain that is printed contains the same
+minutes of four years as the hours by tests/wider_model.py, and as the domain beside them, and its warnings are told; or its
+fault is. Then, for SECONDS, drawn texts, tables, years and options: rules with holidays, moments and comments, unknown rules
+and fallback rules. The domains are compared at the first and the last minutes of stretches and at random seconds, and the
+faults of texts that are damaged or for which not all is given. Run it after `rt ci`, which builds the programs; GTDESK in the
+environment names another one.
 
 Usage: tests/wider_program.py [SECONDS [SEED]]    (without SECONDS no drawn texts; the same seed draws the same)
 """
