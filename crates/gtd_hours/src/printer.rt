@@ -20,8 +20,8 @@ use std::alloc::{AllocError, Global};
 
 /// The text of the hours, or an error if memory was refused.
 ///
-/// Rules have `; `, `, ` or ` || ` before them, as their links say, kinds of selectors and times a space, and a closed rule ends in
-/// ` off`. An open rule ends in ` open` only where the comma of the next rule would else go on with its times or selectors. A
+/// Rules have `; `, `, ` or ` || ` before them, as their links say, kinds of selectors and times a space, and a closed rule ends
+/// in ` off`. An open rule ends in ` open` only where the comma of the next rule would else go on with its times or selectors. A
 /// rule without selectors and times begins with `24/7`.
 pub fn print_hours(alloc: Global, hours: &Hours) -> Result<String, AllocError>
     ensures exact { IfOk result (λ text. string_bytes text ≡ hours_text hours.now) }
