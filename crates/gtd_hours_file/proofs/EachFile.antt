@@ -17,8 +17,9 @@ use Rattle.gtd_records.specs.declared.vehicles.Vehicles.{Vehicles}
 use Rattle.gtd_records.specs.declared.vehicles.Vehicles.TheVariants.{Every, Only, AllBut}
 use Rattle.gtd_records.specs.declared.vehicles.Version.TheVariants as version
 use Rattle.gtd_records.specs.facts.SortedCodes.{ascending}
-use Rattle.gtd_hours_file.specs.HoursFile.{AreEach, AreOfFile, AreRows, AreTable, HowRead, IsHoursColumn, IsHoursFault}
-use Rattle.gtd_hours_file.specs.HoursFile.{IsHoursFile, IsHoursOf, IsRow, Reads, faults_of, header, sound_of, text_fault}
+use Rattle.gtd_hours_options.specs.Readings.{HowRead, Reads}
+use Rattle.gtd_hours_file.specs.HoursFile.{AreEach, AreOfFile, AreRows, AreTable, IsHoursColumn, IsHoursFault}
+use Rattle.gtd_hours_file.specs.HoursFile.{IsHoursFile, IsHoursOf, IsRow, faults_of, header, sound_of, text_fault}
 use Rattle.gtd_hours_file.specs.HoursFile.{with_hours}
 use Rattle.gtd_hours_file.specs.SameAnswers.{IsEachRead}
 use Rattle.gtd_hours_file.specs.declared.fault.HoursFileFault.{HoursFileFault}

@@ -15,7 +15,8 @@ use Rattle.gtd_records.specs.declared.vehicles.Vehicles.{Vehicles}
 use Rattle.gtd_records.specs.declared.vehicles.Vehicles.TheVariants.{Every, Only, AllBut}
 use Rattle.gtd_records.specs.declared.vehicles.Version.TheVariants as version
 use Rattle.gtd_records.specs.facts.Rising.{one_list}
-use Rattle.gtd_hours_file.specs.HoursFile.{AreEach, AreOfFile, AreRows, AreTable, AreTooMany, HowRead, IsFullRow}
+use Rattle.gtd_hours_options.specs.Readings.{HowRead}
+use Rattle.gtd_hours_file.specs.HoursFile.{AreEach, AreOfFile, AreRows, AreTable, AreTooMany, IsFullRow}
 use Rattle.gtd_hours_file.specs.HoursFile.{IsHoursColumn, IsHoursFault, IsHoursFile, IsHoursOf, IsRow, faults_of, header}
 use Rattle.gtd_hours_file.specs.HoursFile.{sound_of, text_fault, with_hours}
 use Rattle.gtd_hours_file.specs.SameAnswers.{AreReadInOneWay, AreSameHours, AreSameRestrictions, AreSameRows, IsSameAnswer}

@@ -9,8 +9,9 @@ use Rattle.gtd_core.specs.Limits.{most_file_bytes, most_rows}
 use Rattle.gtd_records.specs.Columns.{Fields}
 use Rattle.gtd_records.specs.Taking.{AreAllTaken, AreTableTaken, HasHeader}
 use Rattle.gtd_records.specs.declared.rows.RowsEnd.TheVariants.{All as AllRows, NoHeader, TooMany}
-use Rattle.gtd_hours_file.specs.HoursFile.{AreEach, AreOfFile, AreRows, AreTable, HowRead, IsRow, faults_of, header}
-use Rattle.gtd_hours_file.specs.HoursFile.{how_read, sound_of}
+use Rattle.gtd_hours_options.specs.Readings.{HowRead, how_read}
+use Rattle.gtd_hours_file.specs.HoursFile.{AreEach, AreOfFile, AreRows, AreTable, IsRow, faults_of, header}
+use Rattle.gtd_hours_file.specs.HoursFile.{sound_of}
 use Rattle.gtd_hours_file.specs.PuttingRows.{IsWithin}
 use Rattle.gtd_hours_file.specs.TakenRows.{BeginsReading, TakesRow}
 use Rattle.gtd_hours_file.specs.declared.fault.HoursFileFault.{HoursFileFault}

@@ -14,7 +14,8 @@ use Rattle.gtd_records.specs.Columns.{AreTypesRead, Fields, IsOrdered, closed_of
 use Rattle.gtd_records.specs.declared.direction.Closed.{Closed}
 use Rattle.gtd_records.specs.declared.vehicles.Vehicles.{Vehicles}
 use Rattle.gtd_records.specs.declared.vehicles.Version.TheVariants as version
-use Rattle.gtd_hours_file.specs.HoursFile.{HowRead, IsFullRow, IsHoursColumn, IsHoursFault, IsHoursOf, IsRow, Reads}
+use Rattle.gtd_hours_options.specs.Readings.{HowRead, Reads}
+use Rattle.gtd_hours_file.specs.HoursFile.{IsFullRow, IsHoursColumn, IsHoursFault, IsHoursOf, IsRow}
 use Rattle.gtd_hours_file.specs.HoursFile.{with_hours}
 use Rattle.gtd_hours_file.specs.PuttingRows.{IsWithin}
 use Rattle.gtd_hours_file.specs.Reading.{IsColumnRead, IsRowRead, IsTextStop, unread}

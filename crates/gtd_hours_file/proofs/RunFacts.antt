@@ -9,7 +9,8 @@ use Rattle.gtd_report.specs.Run.{TookFirst}
 use Rattle.gtd_report.specs.declared.output.Progress.{Progress}
 use Rattle.gtd_report.specs.declared.output.Stop.{Stop}
 use Rattle.gtd_report.specs.declared.output.Stop.TheVariants.{Output, Memory}
-use Rattle.gtd_hours_file.specs.HoursFile.{AreOfFile, HowRead}
+use Rattle.gtd_hours_options.specs.Readings.{HowRead}
+use Rattle.gtd_hours_file.specs.HoursFile.{AreOfFile}
 use Rattle.gtd_hours_file.specs.Listing.{AreLines}
 use Rattle.gtd_hours_file.specs.PuttingRows.{PutsRows, answer_of}
 use Rattle.gtd_hours_file.specs.Run.{HasTranslated, IsFaultList, IsRefusal, TookFirstRecords}

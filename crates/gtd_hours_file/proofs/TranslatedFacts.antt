@@ -20,7 +20,8 @@ use Rattle.gtd_records.specs.facts.RowFacts as record_rows
 use Rattle.gtd_report.specs.Putting.{text_of}
 use Rattle.gtd_text.specs.Canonical.{canonical}
 use Rattle.gtd_text.specs.Reading.{HasNoFault, StandsFor}
-use Rattle.gtd_hours_file.specs.HoursFile.{AreEach, AreOfFile, AreRows, AreTable, HowRead, IsRow, faults_of, sound_of}
+use Rattle.gtd_hours_options.specs.Readings.{HowRead}
+use Rattle.gtd_hours_file.specs.HoursFile.{AreEach, AreOfFile, AreRows, AreTable, IsRow, faults_of, sound_of}
 use Rattle.gtd_hours_file.specs.Translated.{IsDomainOf, IsTranslated, IsTranslation}
 use Rattle.gtd_hours_file.specs.declared.fault.HoursFileFault.{HoursFileFault}
 use Rattle.gtd_hours_file.specs.declared.fault.HoursFileFault.TheVariants as fault

@@ -11,7 +11,7 @@ use Rattle.gtd_hours_known.specs.declared.fault.KnownFault.{KnownFault}
 use Rattle.gtd_hours_known.specs.declared.fault.KnownFault.TheVariants as of_text
 use Rattle.gtd_hours_known.specs.declared.known.KnownHours.{KnownHours}
 use Rattle.gtd_hours_loose.specs.declared.manner.Manner.{Manner}
-use Rattle.gtd_hours_options.specs.Manners.{IsReadFaultWithIn, IsReadingWithIn}
+use Rattle.gtd_hours_options.specs.Readings.{HasFault, HowRead, Reads}
 use Rattle.gtd_hours_options.specs.declared.fault.OptionsFault.{OptionsFault}
 use Rattle.gtd_hours_options.specs.declared.fault.OptionsFault.TheVariants as with_options
 use Rattle.gtd_hours_options.specs.declared.fault.OptionsReadFault.TheVariants as unread
@@ -22,26 +22,8 @@ use Rattle.gtd_records.specs.declared.vehicles.Vehicles.{Vehicles}
 use Rattle.gtd_records.specs.declared.vehicles.Version.TheVariants as version
 use Rattle.gtd_hours_file.specs.declared.fault.HoursFileFault.{HoursFileFault}
 use Rattle.gtd_hours_file.specs.declared.fault.HoursFileFault.TheVariants as fault
-use Rattle.gtd_hours_file.specs.declared.hours_reading.HoursReading.{HoursReading}
 use Rattle.gtd_hours_file.specs.declared.row.HoursRow.{HoursRow}
 use Rattle.gtd_hours_file.specs.declared.row.RowHours.{RowHours}
-
--- How texts of hours are read: strictly or loosely, with what is known of holidays, and with what is given for times.
-pub record HowRead : Type 0 where
-  pub manner : Manner
-  pub options : Options
-
--- how a run is told to read them
-abbrev pub how_read : HoursReading → HowRead
-how_read told = record { manner = told.manner; options = told.options.now }
-
--- these hours are read of a text
-abbrev pub Reads : HowRead → List ℕ → KnownHours → Type 0
-Reads how text read = IsReadingWithIn how.manner how.options text read
-
--- the text has this first fault
-abbrev pub HasFault : HowRead → List ℕ → OptionsFault → Type 0
-HasFault how text bad = IsReadFaultWithIn how.manner how.options text (unread.Fault bad)
 
 -- ---- faults of texts, in the row with this number
 

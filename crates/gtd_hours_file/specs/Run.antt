@@ -5,7 +5,8 @@ use Rattle.gtd_migrate.specs.Migrated.{migrated}
 use Rattle.gtd_records.specs.Closing.{Restriction}
 use Rattle.gtd_report.specs.Putting.{text_of}
 use Rattle.gtd_report.specs.Run.{TookFirst}
-use Rattle.gtd_hours_file.specs.HoursFile.{HowRead, IsHoursFile}
+use Rattle.gtd_hours_options.specs.Readings.{HowRead}
+use Rattle.gtd_hours_file.specs.HoursFile.{IsHoursFile}
 use Rattle.gtd_hours_file.specs.Listing.{AreLines}
 use Rattle.gtd_hours_file.specs.Translated.{IsTranslation}
 use Rattle.gtd_hours_file.specs.declared.fault.HoursFileFault.{HoursFileFault}

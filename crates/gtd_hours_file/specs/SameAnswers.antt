@@ -5,7 +5,7 @@ use Rattle.gtd_hours.specs.Opening.{IsOpen}
 use Rattle.gtd_hours_known.specs.declared.known.KnownHours.{KnownHours}
 use Rattle.gtd_hours_options.specs.declared.fault.OptionsFault.{OptionsFault}
 use Rattle.gtd_records.specs.Closing.{HoldsAt, Restriction}
-use Rattle.gtd_hours_file.specs.HoursFile.{HasFault, HowRead, Reads}
+use Rattle.gtd_hours_options.specs.Readings.{HasFault, HowRead, Reads}
 use Rattle.gtd_hours_file.specs.declared.fault.HoursFileFault.{HoursFileFault}
 use Rattle.gtd_hours_file.specs.declared.row.HoursRow.{HoursRow}
 use Rattle.gtd_hours_file.specs.declared.row.RowHours.{RowHours}

@@ -1,7 +1,8 @@
 -- What reading a file of hours makes of its rows.
 use Rattle.std.specs.Prelude.{◌≡◌, ◌↔◌, ◌++◌, ℕ, Bool, true, false, Result, IsTrue}
 use Rattle.gtd_records.specs.Columns.{Fields}
-use Rattle.gtd_hours_file.specs.HoursFile.{IsRow, faults_of, header, how_read, sound_of}
+use Rattle.gtd_hours_options.specs.Readings.{how_read}
+use Rattle.gtd_hours_file.specs.HoursFile.{IsRow, faults_of, header, sound_of}
 use Rattle.gtd_hours_file.specs.declared.fault.HoursFileFault.{HoursFileFault}
 use Rattle.gtd_hours_file.specs.declared.file.Reading.{Reading}
 use Rattle.gtd_hours_file.specs.declared.row.HoursRow.{HoursRow}

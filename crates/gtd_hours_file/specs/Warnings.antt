@@ -12,7 +12,8 @@ use Rattle.gtd_hours.specs.declared.hours.Rule.{Rule}
 use Rattle.gtd_hours_warnings.specs.Lines.{warning_lines}
 use Rattle.gtd_hours_warnings.specs.Marks.{AreWarningsWith}
 use Rattle.gtd_hours_warnings.specs.declared.warnings.Warning.{Warning}
-use Rattle.gtd_hours_file.specs.HoursFile.{HowRead, IsHoursFile}
+use Rattle.gtd_hours_options.specs.Readings.{HowRead}
+use Rattle.gtd_hours_file.specs.HoursFile.{IsHoursFile}
 use Rattle.gtd_hours_file.specs.declared.row.HoursRow.{HoursRow}
 use Rattle.gtd_hours_file.specs.declared.row.RowHours.{RowHours}
 use Rattle.gtd_hours_file.specs.declared.translated.Translated.{Translated}

@@ -3,15 +3,16 @@
 ghost use Rattle.std.specs.Prelude.{◌≡◌, ◌++◌, [], ◌∷◌, Result, IfOk, IsTrue, OnOk, ◌↔◌};
 ghost use Rattle.csv.specs.Reading.{default_config, records, strip_bom};
 ghost use Rattle.csv.specs.Records.{fields_of};
-ghost use Rattle.gtd_hours_file.specs.HoursFile.{AreOfFile, AreTable, IsRow, faults_of, header, how_read, sound_of};
+ghost use Rattle.gtd_hours_options.specs.Readings.{how_read};
+ghost use Rattle.gtd_hours_file.specs.HoursFile.{AreOfFile, AreTable, IsRow, faults_of, header, sound_of};
 ghost use Rattle.gtd_hours_file.specs.declared.fault.HoursFileFault.{HoursFileFault};
 ghost use Rattle.gtd_hours_file.specs.declared.row.HoursRow.{HoursRow};
 
 use crate::fault::HoursFileFault;
-use crate::hours_reading::HoursReading;
 use crate::row::{HoursRow, RowStop, read_row};
 use csv::ByteRecord;
 use gtd_core::limits::MOST_FILE_BYTES;
+use gtd_hours_options::HoursReading;
 use gtd_records::{RowTaker, RowsEnd, four_columns, take_rows};
 use std::alloc::{AllocError, Global};
 

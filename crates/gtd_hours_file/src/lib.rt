@@ -7,7 +7,6 @@
 #![tactic(auto)]
 
 pub use fault::HoursFileFault;
-pub use hours_reading::HoursReading;
 pub use refused::{
     RefusalSnippet, ambiguous_snippet, domain_snippet, hours_snippet, too_many_snippet,
 };
@@ -20,7 +19,6 @@ pub use words::HoursFaultText;
 mod fault;
 mod fault_list;
 mod file;
-mod hours_reading;
 pub mod laws;
 mod refused;
 mod row;

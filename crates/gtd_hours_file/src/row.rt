@@ -2,13 +2,13 @@
 
 ghost use Rattle.std.specs.Prelude.{◌≡◌, IfErr, IfOk};
 ghost use Rattle.csv.specs.Records.{fields_of};
+ghost use Rattle.gtd_hours_options.specs.Readings.{how_read};
 ghost use Rattle.gtd_hours_file.specs.HoursFile as file_spec;
-ghost use Rattle.gtd_hours_file.specs.HoursFile.{IsHoursOf, how_read};
+ghost use Rattle.gtd_hours_file.specs.HoursFile.{IsHoursOf};
 ghost use Rattle.gtd_hours_file.specs.Reading as spec;
 ghost use Rattle.gtd_hours_file.specs.Reading.{IsColumnRead, IsRowRead, IsTextStop};
 
 use crate::fault::HoursFileFault;
-use crate::hours_reading::HoursReading;
 use csv::ByteRecord;
 use gtd_core::limits::MOST_BASIC_DOMAINS;
 use gtd_hours_domain::cost_of;
@@ -16,7 +16,7 @@ use gtd_hours_grammar::{FaultKind, HoursFault};
 use gtd_hours_holidays::KnownYears;
 use gtd_hours_known::{KnownFault, KnownHours};
 use gtd_hours_moments::NeedKind;
-use gtd_hours_options::{OptionsFault, OptionsReadFault, read_hours_with_in};
+use gtd_hours_options::{HoursReading, OptionsFault, OptionsReadFault, read_hours_with_in};
 use gtd_records::{
     Closed, Vehicles, Version, four_columns, read_closed, read_number, read_vehicles,
 };

@@ -3,7 +3,8 @@
 ghost use Rattle.std.specs.Prelude.{◌≡◌, ◌<◌, ◌≤◌, ℕ, [], List, Some, IfErr, IfOk, IsErrOf, IsTrue, OnOk, length};
 ghost use Rattle.std.specs.List.{All};
 ghost use Rattle.gtd_core.specs.Limits.{most_rows};
-ghost use Rattle.gtd_hours_file.specs.HoursFile.{AreOfFile, HowRead, how_read};
+ghost use Rattle.gtd_hours_options.specs.Readings.{HowRead, how_read};
+ghost use Rattle.gtd_hours_file.specs.HoursFile.{AreOfFile};
 ghost use Rattle.gtd_hours_file.specs.PuttingRows.{IsWithin, answer_of};
 ghost use Rattle.gtd_hours_file.specs.Warnings as warned;
 ghost use Rattle.gtd_hours_file.specs.Warnings.{IsWarned};
@@ -12,7 +13,6 @@ ghost use Rattle.gtd_hours_file.specs.Run.{HasTranslated, IsRefusal, IsStop, fai
 use crate::fault::HoursFileFault;
 use crate::fault_list::lines_of;
 use crate::file::read_file;
-use crate::hours_reading::HoursReading;
 use crate::row::HoursRow;
 use crate::translated::Translated;
 use crate::translation::put_records;

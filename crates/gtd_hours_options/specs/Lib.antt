@@ -3,3 +3,4 @@ pub mod Misfits
 pub mod First
 pub mod Reading
 pub mod Manners
+pub mod Readings

@@ -5,6 +5,7 @@
 
 mod fault;
 mod first;
+mod hours_reading;
 pub mod laws;
 mod manner;
 mod misfits;
@@ -13,6 +14,7 @@ mod reader;
 mod told;
 
 pub use fault::{OptionsFault, OptionsReadFault};
+pub use hours_reading::HoursReading;
 pub use manner::read_hours_with_in;
 pub use options::Options;
 pub use reader::read_hours_with;

@@ -27,7 +27,7 @@ use Rattle.gtd_report.specs.declared.fault.RunFault.TheVariants as run
 use Rattle.gtd_faults.specs.declared.list_fault.ListFault.{ListFault}
 use Rattle.gtd_faults.specs.declared.list_fault.ListFault.TheVariants as list
 use Rattle.gtd_faults.specs.Run.{HasListed, TookSome}
-use Rattle.gtd_hours_file.specs.HoursFile.{HowRead}
+use Rattle.gtd_hours_options.specs.Readings.{HowRead}
 use Rattle.gtd_hours_file.specs.Run.{HasTranslated}
 use Rattle.gtd_hours_file.specs.Warnings.{IsWarned, lines_of}
 use Rattle.gtd_hours_file.specs.declared.translated.Translated.{Translated}

@@ -1,7 +1,7 @@
 //! The command `records`: the record file of a file of opening hours.
 
 ghost use Rattle.std.specs.Prelude.{◌≡◌, ◌<◌};
-ghost use Rattle.gtd_hours_file.specs.HoursFile.{how_read};
+ghost use Rattle.gtd_hours_options.specs.Readings.{how_read};
 ghost use Rattle.gtd_hours_file.specs.Warnings.{lines_of};
 ghost use Rattle.gtdesk_tool.specs.Running.{IsToldOf, RanRecords, failures_after_read, failures_after_write, records_outcome};
 ghost use Rattle.gtdesk_tool.specs.Telling.{Told, ToldIfSome, telling};
@@ -9,7 +9,8 @@ ghost use Rattle.gtdesk_tool.specs.Telling.{Told, ToldIfSome, telling};
 use crate::ending::Ending;
 use crate::refusal::RunRefusal;
 use gtd_devices::{Input, Output};
-use gtd_hours_file::{HoursReading, Translated, Untranslated, run_hours_records};
+use gtd_hours_file::{Translated, Untranslated, run_hours_records};
+use gtd_hours_options::HoursReading;
 use gtd_records::RecordFault;
 use gtd_report::{Progress, put_line};
 use std::alloc::Global;

@@ -1,5 +1,5 @@
 -- Each way in which the rows end gives what the table says: a missing header alone, all rows, or too many with a fault.
-use Rattle.gtd_hours_file.specs.HoursFile.{how_read}
+use Rattle.gtd_hours_options.specs.Readings.{how_read}
 use Rattle.gtd_hours_file.proofs.ReadFacts.{no_header, table_read, table_too_long}
 use Rattle.gtd_hours_file.proofs.file.read_table.Goals as goal
 

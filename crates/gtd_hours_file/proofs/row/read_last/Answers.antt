@@ -1,7 +1,7 @@
 -- A text that is not empty is the whole column, or stops the row.
 use Rattle.std.proofs.Common.{arith}
 use Rattle.std.proofs.lemmas.Bool.Decides.{nat_tests}
-use Rattle.gtd_hours_file.specs.HoursFile.{how_read}
+use Rattle.gtd_hours_options.specs.Readings.{how_read}
 use Rattle.gtd_hours_file.proofs.RowFacts.{column_stops, some_column}
 use Rattle.gtd_hours_file.proofs.row.read_last.Goals as goal
 

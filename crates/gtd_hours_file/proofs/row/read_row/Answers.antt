@@ -2,7 +2,7 @@
 use Rattle.std.proofs.Common.{sym}
 use Rattle.std.specs.Prelude.{Ok}
 use Rattle.csv.specs.Records.{fields_of}
-use Rattle.gtd_hours_file.specs.HoursFile.{how_read}
+use Rattle.gtd_hours_options.specs.Readings.{how_read}
 use Rattle.gtd_hours_file.proofs.RowFacts.{full_row, no_types, row_stops}
 use Rattle.gtd_hours_file.proofs.row.read_row.Goals as goal
 

@@ -3,7 +3,8 @@
 use Rattle.std.proofs.Common.{◌<◌, ◌≤◌, arith, refl}
 use Rattle.std.proofs.lemmas.Bool.Decides.{nat_tests}
 use Rattle.gtd_hours.specs.Cost.{hours_cost}
-use Rattle.gtd_hours_file.specs.HoursFile.{IsHoursFault, how_read}
+use Rattle.gtd_hours_options.specs.Readings.{how_read}
+use Rattle.gtd_hours_file.specs.HoursFile.{IsHoursFault}
 use Rattle.gtd_hours_file.proofs.RowFacts.{above, below, is_kept, unread_stops}
 use Rattle.gtd_hours_file.proofs.row.read_text.Goals as goal
 

@@ -1,7 +1,8 @@
 -- The rows of a file without a fault are few and within the limit of basic domains, so they can be put.
 use Rattle.std.proofs.Common.{◌≡◌, [], arith, length}
 use Rattle.std.proofs.lemmas.Bool.Decides.{nat_tests}
-use Rattle.gtd_hours_file.specs.HoursFile.{AreOfFile, how_read}
+use Rattle.gtd_hours_options.specs.Readings.{how_read}
+use Rattle.gtd_hours_file.specs.HoursFile.{AreOfFile}
 use Rattle.gtd_hours_file.proofs.ReadFacts.{file_few, file_within, without_faults}
 use Rattle.gtd_hours_file.proofs.run.put_file.Goals as goal
 

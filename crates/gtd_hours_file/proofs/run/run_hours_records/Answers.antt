@@ -1,6 +1,6 @@
 -- Bytes beyond the limit of a file are refused with one fault, and nothing has been put.
 use Rattle.std.proofs.Common.{rules}
-use Rattle.gtd_hours_file.specs.HoursFile.{how_read}
+use Rattle.gtd_hours_options.specs.Readings.{how_read}
 use Rattle.gtd_hours_file.proofs.RunFacts.{large_refused}
 use Rattle.gtd_hours_file.proofs.run.run_hours_records.Goals as goal
 

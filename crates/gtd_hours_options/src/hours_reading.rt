@@ -1,9 +1,9 @@
-//! How the texts of a file of hours are read.
+//! How texts of hours are read.
 
+use crate::options::Options;
 use gtd_hours_loose::Manner;
-use gtd_hours_options::Options;
 
-/// How texts of hours are read.
+/// How texts of hours are read: what [`read_hours_with_in`](crate::read_hours_with_in) is told beside the text.
 #[derive(Clone, Copy)]
 pub struct HoursReading<'a> {
     /// Whether as they are written, or also where they are written loosely.
