@@ -360,7 +360,7 @@ expect 'a long word' 1 '' "gtdesk: DOMAIN: FieldRange at 71
     $(printf '%43s' '')^
     expected: 1 to 12 for a month"
 run hours '1800-2056/2'
-expect 'a domain too large' 1 '' $'gtdesk: TEXT: TooMany at 0\n    1800-2056/2\n    ^\n    expected: hours that take at most 128 basic domains'
+expect 'a domain too large' 1 '' $'gtdesk: TEXT: TooMany at 0\n    1800-2056/2\n    ^\n    expected: hours that take at most 128 basic domains; these take 129'
 run hours $'Mo\xff'
 expect 'hours that are no text' 2 '' "gtdesk: command line: a word is no text $see"
 
@@ -398,7 +398,7 @@ expect 'records of standard input' 0 $'element,direction,vehicles,domain\n1,both
 printf '%s\n' element,direction,vehicles,hours '1,both,0,Apr 10-31' '1,up,0,24/7' '1,both,0,24/7' '1,both,0,1800-2056/2' > bad.csv
 run records bad.csv
 expect 'faults of hours' 1 '' $'bad.csv:2: row 1: Hours Range at 7\n    Apr 10-31\n           ^\n    expected: a number or a time in its range, such as 08:00 or Apr 30\nbad.csv:3: row 2: Direction
-    up\n    ^\n    expected: positive, negative or both\nbad.csv:5: row 4: Hours TooMany at 0\n    1800-2056/2\n    ^\n    expected: hours that take at most 128 basic domains'
+    up\n    ^\n    expected: positive, negative or both\nbad.csv:5: row 4: Hours TooMany at 0\n    1800-2056/2\n    ^\n    expected: hours that take at most 128 basic domains; these take 129'
 run records a.csv
 expect 'no file of hours' 1 '' $'a.csv:1: Header\n    found:    element,direction,vehicle,domain
     expected: element,direction,vehicles,hours'
