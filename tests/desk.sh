@@ -415,6 +415,22 @@ status=$?
 : > err
 expect 'a full output for the faults of hours' 1 '' ''
 
+# Tags with hours that need a table of holidays.
+printf 'element,key,value\n7,access:conditional,no @ (10:00-12:00; PH off)\n' > tags.csv
+printf 'kind,name,means\nmode,access,0\n' > means.csv
+printf 'first,last,kind,name\n2026-01-01,2026-12-31,PH-covered,\n2026-12-25,,PH,Christmas\n' > days.csv
+run conditions --holidays days.csv --years 2026 tags.csv means.csv
+expect 'tags with holidays' 0 $'element,direction,vehicles,domain\n7,both,0,[[(h0m0){d1}*[(h10m0){m120}]]-[(y2026M12d25h0m0){d1}]]' \
+    'tags.csv:2: row 1: warning Hours KnownYears at 19: 2026-2026'
+run conditions tags.csv means.csv
+expect 'no table of holidays' 1 '' $'tags.csv:2: row 1: Hours Holidays at 19\n    no @ (10:00-12:00; PH off)\n                       ^\n    expected: a table of such holidays: give one with --holidays FILE'
+run conditions --holidays days.csv --years 2025-2026 tags.csv means.csv
+expect 'a day that the table does not cover' 1 '' $'tags.csv:2: row 1: Hours Uncovered at 19: 2025-01-01\n    no @ (10:00-12:00; PH off)\n                       ^\n    expected: a table with all holidays of these years, and rows that say so: PH-covered or SH-covered'
+run conditions --holidays means.csv --years 2026 tags.csv means.csv
+expect 'no table' 1 '' 'gtdesk: means.csv: Header'
+run conditions --holidays - --years 2026 - means.csv < days.csv
+expect 'standard input twice' 2 '' 'gtdesk: command line: standard input is given more than once (see gtdesk conditions --help)'
+
 # Outputs that fail.
 : > out
 "$program" now a.csv 2024-04-01T10:00:00 11 > /dev/full 2> err
