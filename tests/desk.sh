@@ -420,7 +420,7 @@ printf 'element,key,value\n7,access:conditional,no @ (10:00-12:00; PH off)\n' > 
 printf 'kind,name,means\nmode,access,0\n' > means.csv
 printf 'first,last,kind,name\n2026-01-01,2026-12-31,PH-covered,\n2026-12-25,,PH,Christmas\n' > days.csv
 run conditions --holidays days.csv --years 2026 tags.csv means.csv
-expect 'tags with holidays' 0 $'element,direction,vehicles,domain\n7,both,0,[[(h0m0){d1}*[(h10m0){m120}]]-[(y2026M12d25h0m0){d1}]]' \
+expect 'tags with holidays' 0 $'element,direction,vehicles,domain\n7,both,0,[[[(h0m0){d1}]*[(h10m0){m120}]]-[(y2026M12d25h0m0){d1}]]' \
     'tags.csv:2: row 1: warning Hours KnownYears at 19: 2026-2026'
 run conditions tags.csv means.csv
 expect 'no table of holidays' 1 '' $'tags.csv:2: row 1: Hours Holidays at 19\n    no @ (10:00-12:00; PH off)\n                       ^\n    expected: a table of such holidays: give one with --holidays FILE'
