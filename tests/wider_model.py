@@ -10,7 +10,7 @@ import hours_model
 import known_model
 import moments_model
 from hours_model import DAY, Fault
-from known_model import Holiday, Uncovered
+from known_model import Uncovered
 
 COMMENT = re.compile(rb'"[^"\x00-\x1f\x7f]*"')
 
@@ -102,10 +102,6 @@ def plain(text):
     return [Rule("," if rule.adds else ";", 0, "open" if rule.opens else "closed", rule.kinds, rule.times, None) for rule in rules]
 
 
-def holidays_in(rule):
-    return [item for items in rule.kinds.values() for item in items if isinstance(item, Holiday)]
-
-
 def moments_in(rule):
     return [item for item in rule.times if isinstance(item, moments_model.Times)]
 
@@ -113,7 +109,7 @@ def moments_in(rule):
 def needs(rules, table, years, options):
     """What is missing, at its place: the first is the fault. Of a range, what is missing first is told."""
     for at, rule in enumerate(rules):
-        for item in holidays_in(rule):
+        for item in known_model.listed_in(rule):
             if known_model.is_uncovered(item, table):
                 yield item.place, "Holidays"
             elif years is None:
@@ -138,8 +134,8 @@ def read(text, table, years, options):
         raise Fault(missing[1], missing[0])
     rules = [rule._replace(times=[pair for item in rule.times for pair in ranges(item, options)]) for rule in rules]
     for rule in rules:
-        for item in holidays_in(rule):
-            day = None if item.kind == "easter" else holidays_model.first_uncovered(table, item.kind, *years)
+        for item in known_model.listed_in(rule):
+            day = None if known_model.is_of_easter(item) else holidays_model.first_uncovered(table, item.kind, *years)
             if day is not None:
                 raise Uncovered(item.place, day)
     return [rule._replace(kinds={kind: known_model.known(items, table, years) for kind, items in rule.kinds.items()})
@@ -151,10 +147,11 @@ def ranges(item, options):
 
 
 def first_holiday(text):
-    """The place of the first holiday of a text that is no plain hours, or None."""
+    """The place of the first holiday, or Easter without a year, of a text that is no plain hours, or None."""
     if plain(text) is not None:
         return None
-    return next((token.place for token in tokens(text) if token.kind in ("holiday", "easter")), None)
+    rules = Reader(tokens(text), len(text)).hours()
+    return min((item.place for rule in rules for item in known_model.listed_in(rule)), default=None)
 
 
 def warnings(text, rules, years):

@@ -391,7 +391,7 @@ listed_near rows years School n h =
     let low = h.0.0 in
     let high = h.0.1 in
     (omega (arith, signed_arith, low), omega (arith, signed_arith, high))
-listed_near rows years (Easter offset) n h =
+listed_near rows years (Easter days) n h =
     let low = h.0.0 in
     let high = h.0.1 in
     (omega (arith, signed_arith, low), omega (arith, signed_arith, high))

@@ -3,6 +3,7 @@ pub mod AdditionFacts
 pub mod CoverFacts
 pub mod CoverageFacts
 pub mod DateFacts
+pub mod EasterFacts
 pub mod OneGrouping
 pub mod OrderFacts
 pub mod PartFacts

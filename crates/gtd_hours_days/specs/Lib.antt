@@ -1,5 +1,6 @@
 pub mod Beginning
 pub mod Costs
+pub mod EasterRanges
 pub mod Groups
 pub mod Listed
 pub mod Parts
@@ -9,6 +10,7 @@ pub use Rattle.gtd_core.specs.Limits
 pub use Rattle.gtd_core.specs.Trees
 pub use Rattle.gtd_calendar.specs.Calendar
 pub use Rattle.gtd_eval.specs.Membership
+pub use Rattle.gtd_hours.specs.Moving
 pub use Rattle.gtd_hours_leaves.specs.Leaves
 pub use Rattle.gtd_hours_holidays.specs.Days
 pub use Rattle.gtd_hours_holidays.specs.KnownYears

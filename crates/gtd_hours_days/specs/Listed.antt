@@ -7,6 +7,9 @@ use Rattle.gtd_hours_holidays.specs.declared.known_years.KnownYears.{KnownYears}
 use Rattle.gtd_hours_holidays.specs.declared.row.HolidayKind.{HolidayKind}
 use Rattle.gtd_hours_holidays.specs.declared.row.HolidayKind.TheVariants as kind
 use Rattle.gtd_hours_holidays.specs.declared.row.HolidayRow.{HolidayRow}
+use Rattle.gtd_hours_days.specs.EasterRanges.{IsInRange}
+use Rattle.gtd_hours_days.specs.declared.listed.EasterDays.{EasterDays}
+use Rattle.gtd_hours_days.specs.declared.listed.EasterDays.TheVariants as easter
 use Rattle.gtd_hours_days.specs.declared.listed.Listed.{Listed}
 use Rattle.gtd_hours_days.specs.declared.listed.Listed.TheVariants.{Public, School, Easter}
 
@@ -18,12 +21,17 @@ IsKnownHoliday rows years kind n = IsOfYears years.first years.last n × IsHolid
 abbrev pub IsEasterSunday : ℤ → Type 0
 IsEasterSunday n = (y : ℕ) × IsEaster y n
 
+-- day n is one of these days of Easter, whatever its year is
+abbrev pub IsOfEaster : EasterDays → ℤ → Type 0
+IsOfEaster (easter.Day offset) n = IsEasterSunday (n -ℤ offset.days)
+IsOfEaster (easter.Range range) n = IsInRange range.is_over range.first range.last n
+
 -- The selector holds on day n. A holiday is a day of the years, and the day that comes so many days after it may be another.
--- So many days after Easter Sunday is a day of the years itself.
+-- A day of Easter is a day of the years itself.
 abbrev pub IsListed : List HolidayRow → KnownYears → Listed → ℤ → Type 0
 IsListed rows years (Public offset) n = IsKnownHoliday rows years kind.Public (n -ℤ offset.days)
 IsListed rows years School n = IsKnownHoliday rows years kind.School n
-IsListed rows years (Easter offset) n = IsOfYears years.first years.last n × IsEasterSunday (n -ℤ offset.days)
+IsListed rows years (Easter days) n = IsOfYears years.first years.last n × IsOfEaster days n
 
 -- one of the selectors does
 abbrev pub SomeListed : List HolidayRow → KnownYears → List Listed → ℤ → Type 0
@@ -36,7 +44,7 @@ SomeListed rows years (x ∷ xs) n = IsListed rows years x n ⊎ SomeListed rows
 abbrev pub kind_of : Listed → Option HolidayKind
 kind_of (Public offset) = Some kind.Public
 kind_of School = Some kind.School
-kind_of (Easter offset) = None
+kind_of (Easter days) = None
 
 -- the table says all holidays of the kind on each day of the years
 abbrev pub CoversYears : List HolidayRow → KnownYears → Option HolidayKind → Type 0

@@ -1,23 +1,22 @@
-//! The days of holidays and of Easter, added to a set.
+//! The days of selectors, added to a set.
 
 ghost use Rattle.std.specs.Prelude.{◌≡◌, ◌↔◌, ◌⊎◌, ◌≤◌, ◌+ℤ◌, ◌-ℤ◌, ◌≤ℤ◌, ◌<ℤ◌, ℤ, false, IsTrue, OnOk};
 ghost use Rattle.gtd_calendar.specs.Calendar.{IsCalendarDay};
 ghost use Rattle.gtd_hours_holidays.specs.Days.{IsIn};
-ghost use Rattle.gtd_hours_holidays.specs.Easter.{IsEaster};
 ghost use Rattle.gtd_hours_holidays.specs.KnownYears.{IsOfYears};
 ghost use Rattle.gtd_hours_holidays.specs.Table.{IsOfRow};
 ghost use Rattle.gtd_hours_days.specs.Beginning.{IsBegun};
-ghost use Rattle.gtd_hours_days.specs.Listed.{IsEasterSunday, IsKnownHoliday, IsListed};
+ghost use Rattle.gtd_hours_days.specs.Listed.{IsKnownHoliday, IsListed};
 
+use crate::easter_days::add_easter_days;
 use crate::listed::Listed;
 use crate::offset::Offset;
 use crate::yearly::{earlier, later};
-use gtd_hours_holidays::laws::easter_is_a_sunday;
-use gtd_hours_holidays::{Days, HolidayKind, HolidayRow, KnownYears, easter};
+use gtd_hours_holidays::{Days, HolidayKind, HolidayRow, KnownYears};
 use std::alloc::AllocError;
 
-// The day that comes so many days after another one.
-fn plus(day: i64, offset: Offset) -> i64
+/// The day that comes so many days after another one.
+pub(crate) fn plus(day: i64, offset: Offset) -> i64
     requires { IsCalendarDay day }
     ensures { result ≡ day +ℤ offset.days }
 {
@@ -52,17 +51,15 @@ fn is_empty(from: i64, to: i64) -> bool
     to < from
 }
 
-// Adds the days so many after those from one to another, as far as these are days of the years.
-fn add_part(
+/// Adds the days so many after those from one to another, as far as these are days of the years.
+pub(crate) fn add_part(
     days: &mut Days,
     years: KnownYears,
     offset: Offset,
     first: i64,
     last: i64,
 ) -> Result<(), AllocError>
-    requires first_in { IsCalendarDay first }
-    requires last_in { IsCalendarDay last }
-    requires begun { IsBegun days.old.first years }
+    requires { IsBegun days.old.first years }
     ensures begins { days.new.first ≡ days.old.first }
     ensures added { OnOk result ((n : ℤ) → IsIn days.new n ↔ (IsIn days.old n
         ⊎ (IsOfYears years.first years.last (n -ℤ offset.days) × (first ≤ℤ (n -ℤ offset.days))
@@ -146,8 +143,8 @@ fn is_of_years(years: KnownYears, day: i64) -> bool
     is_between(day, years.first_day(), years.last_day())
 }
 
-// Adds a day, if it is one of the years.
-fn add_day(days: &mut Days, years: KnownYears, day: i64) -> Result<(), AllocError>
+/// Adds a day, if it is one of the years.
+pub(crate) fn add_day(days: &mut Days, years: KnownYears, day: i64) -> Result<(), AllocError>
     requires { IsBegun days.old.first years }
     ensures begins { days.new.first ≡ days.old.first }
     ensures added { OnOk result ((n : ℤ) → IsIn days.new n
@@ -157,28 +154,6 @@ fn add_day(days: &mut Days, years: KnownYears, day: i64) -> Result<(), AllocErro
         return Ok(());
     }
     days.add(day, day)?;
-    Ok(())
-}
-
-// The day so many days after Easter Sunday of a year.
-fn after_easter(year: u16, offset: Offset) -> i64
-    requires { (1800 ≤ year) × (year ≤ 2799) }
-    ensures { IsEaster year (result -ℤ offset.days) }
-{
-    plus(easter(year), offset)
-}
-
-// Adds the days of the years that come so many days after Easter Sunday of some year.
-fn add_easter(days: &mut Days, years: KnownYears, offset: Offset) -> Result<(), AllocError>
-    requires { IsBegun days.old.first years }
-    ensures begins { days.new.first ≡ days.old.first }
-    ensures added { OnOk result ((n : ℤ) → IsIn days.new n ↔ (IsIn days.old n
-        ⊎ (IsOfYears years.first years.last n × IsEasterSunday (n -ℤ offset.days)))) }
-{
-    easter_is_a_sunday();
-    for year in years.first - 2..years.last + 3 {
-        add_day(days, years, after_easter(year, offset))?;
-    }
     Ok(())
 }
 
@@ -207,6 +182,6 @@ pub(crate) fn add_listed(
     match listed {
         Listed::Public { offset } => add_holidays(days, rows, years, HolidayKind::Public, offset),
         Listed::School => add_school(days, rows, years),
-        Listed::Easter { offset } => add_easter(days, years, offset),
+        Listed::Easter(easter) => add_easter_days(days, years, easter),
     }
 }

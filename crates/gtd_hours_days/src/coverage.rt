@@ -23,7 +23,7 @@ fn kind_in(listed: Listed) -> Option<HolidayKind>
     match listed {
         Listed::Public { offset: _ } => Some(HolidayKind::Public),
         Listed::School => Some(HolidayKind::School),
-        Listed::Easter { offset: _ } => None,
+        Listed::Easter(_) => None,
     }
 }
 

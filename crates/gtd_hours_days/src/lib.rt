@@ -5,15 +5,20 @@
 #![tactic(auto)]
 
 pub use coverage::{Uncovered, first_uncovered};
+pub use easter_range::EasterRange;
 pub use group::Group;
 pub use grouping::{Grouping, grouping_of};
-pub use listed::Listed;
+pub use listed::{EasterDays, Listed};
 pub use offset::Offset;
 pub use selection::{ListedFault, listed_days, listed_expr};
 pub use set::{DaysFault, days_expr};
+pub use yearly_day::YearlyDay;
 
 mod additions;
 mod coverage;
+mod easter_days;
+mod easter_order;
+mod easter_range;
 mod group;
 mod grouping;
 pub mod laws;
@@ -25,3 +30,5 @@ mod selection;
 mod set;
 mod split;
 mod yearly;
+mod yearly_day;
+mod yearly_days;

@@ -1,6 +1,16 @@
 //! Selectors of days that are known in some years alone.
 
+use crate::easter_range::EasterRange;
 use crate::offset::Offset;
+
+/// Days of Easter.
+#[derive(Clone, Copy, Debug, PartialEq, Eq)]
+pub enum EasterDays {
+    /// So many days after Easter Sunday: `easter`, `easter +1 day`.
+    Day { offset: Offset },
+    /// From one day of each year to another, one of which is so many days after Easter Sunday: `easter-Oct 31`.
+    Range(EasterRange),
+}
 
 /// A selector whose days are known in some years alone.
 #[derive(Clone, Copy, Debug, PartialEq, Eq)]
@@ -9,6 +19,6 @@ pub enum Listed {
     Public { offset: Offset },
     /// School holidays: `SH`.
     School,
-    /// So many days after Easter Sunday: `easter`, `easter +1 day`.
-    Easter { offset: Offset },
+    /// Days of Easter: `easter`, `easter-Oct 31`.
+    Easter(EasterDays),
 }

@@ -8,19 +8,19 @@ use Rattle.gtd_hours_tokens.specs.Lexing.{AreTokens, IsTokenFault, Reads}
 use Rattle.gtd_hours_tokens.specs.facts.TokenForms.{begins_inside, is_language, no_space}
 use Rattle.gtd_hours_tokens.specs.declared.token.Token.{Token}
 use Rattle.gtd_hours_holiday_rules.specs.Checked.{checked_from, checked_text, first_or_space, form_of, put_over, written_over}
-use Rattle.gtd_hours_holiday_rules.specs.Comments.{IsBadPlace, are_whole, is_whole}
+use Rattle.gtd_hours_items.specs.Comments.{IsBadPlace, are_whole, is_whole}
 use Rattle.gtd_hours_moving.specs.Moving.{IsMovingFront}
 use Rattle.gtd_hours_moving.specs.declared.front.MovingFront.{MovingFront}
-use Rattle.gtd_hours_holiday_rules.specs.Fronts.{IsFrontAt, IsFrontIf, before_after, may_begin}
-use Rattle.gtd_hours_holiday_rules.specs.Items.{AreItems, AreItemsLeft, item_by, more_by}
-use Rattle.gtd_hours_holiday_rules.specs.declared.fronts.Before.{Before}
-use Rattle.gtd_hours_holiday_rules.specs.declared.items.Item.{Item}
+use Rattle.gtd_hours_items.specs.Fronts.{IsFrontAt, IsFrontIf, before_after, may_begin}
+use Rattle.gtd_hours_items.specs.Items.{AreItems, AreItemsLeft, item_by, more_by}
+use Rattle.gtd_hours_items.specs.declared.fronts.Before.{Before}
+use Rattle.gtd_hours_items.specs.declared.items.Item.{Item}
 use Rattle.gtd_hours_holiday_rules.specs.Parts.{parts_of, told_of}
 use Rattle.gtd_hours_holiday_rules.specs.Reading.{HasItems, HasParts, IsHolidayText}
 use Rattle.gtd_hours_holiday_rules.specs.Rules.{rules_of, said_by}
 use Rattle.gtd_hours_holiday_rules.specs.declared.parts.Part.{Part}
 use Rattle.gtd_hours_holiday_rules.specs.declared.text.HolidayText.{HolidayText}
-use Rattle.gtd_hours_holiday_rules.proofs.TokenLemmas.{left_true, right_true}
+use Rattle.gtd_hours_items.proofs.TokenLemmas.{left_true, right_true}
 
 length-put_over : (n : ℕ) (bytes : List ℕ) (place : ℕ) (form : List ℕ) → length (put_over n bytes place form) ≡ length bytes
 length-put_over zero bytes place form = refl
@@ -45,11 +45,11 @@ same_length text parts read has = ap length has.checked ∙ length-checked_from 
 
 -- ---- one reading
 
-module _ (one_front : (tokens : List Token) (end : ℕ) (one other : Option MovingFront) → IsMovingFront tokens end one
-    → IsMovingFront tokens end other → one ≡ other) where
+module _ (one_front : (text : List ℕ) (tokens : List Token) (one other : Option MovingFront) → IsMovingFront text tokens one
+    → IsMovingFront text tokens other → one ≡ other) where
   one_if : (c : Bool) (text : List ℕ) (ts : List Token) (x y : Option MovingFront) → IsFrontIf c text ts x → IsFrontIf c text ts y
       → x ≡ y
-  one_if true text ts x y p q = one_front ts (length text) x y p q
+  one_if true text ts x y p q = one_front text ts x y p q
   one_if false text ts x y p q = p ∙ sym q
 
   one_at : (text : List ℕ) (b : Before) (ts : List Token) (x y : Option MovingFront) → IsFrontAt text b ts x

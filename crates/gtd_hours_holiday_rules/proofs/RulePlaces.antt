@@ -6,7 +6,7 @@ use Rattle.gtd_hours_days.specs.declared.listed.Listed.{Listed}
 use Rattle.gtd_hours_holiday_rules.specs.Reading.{HasParts}
 use Rattle.gtd_hours_holiday_rules.specs.Rules.{HavePlaces, Said, begins_rule, begun}
 use Rattle.gtd_hours_holiday_rules.specs.Rules.{link_behind, or_also, rules_from, said_by, with_item}
-use Rattle.gtd_hours_holiday_rules.specs.declared.items.Item.{Item}
+use Rattle.gtd_hours_items.specs.declared.items.Item.{Item}
 use Rattle.gtd_hours_holiday_rules.specs.declared.parts.Part.{Part}
 use Rattle.gtd_hours_holiday_rules.specs.declared.role.Role.{Role}
 use Rattle.gtd_hours_holiday_rules.specs.declared.role.Role.TheVariants as role

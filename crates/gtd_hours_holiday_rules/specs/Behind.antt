@@ -1,12 +1,14 @@
 -- What stands behind the items of a text.
 use Rattle.std.specs.Prelude.{ℕ, ◌==◌, Bool, true, false, if◌then◌else◌}
+use Rattle.gtd_hours_days.specs.declared.listed.EasterDays.{EasterDays}
+use Rattle.gtd_hours_days.specs.declared.listed.EasterDays.TheVariants as easter
 use Rattle.gtd_hours_days.specs.declared.listed.Listed.{Listed}
 use Rattle.gtd_hours_days.specs.declared.listed.Listed.TheVariants as listed
 use Rattle.gtd_hours_tokens.specs.declared.token.TokenKind.{TokenKind}
 use Rattle.gtd_hours_tokens.specs.declared.token.TokenKind.TheVariants as kind
-use Rattle.gtd_hours_holiday_rules.specs.declared.items.Item.{Item}
-use Rattle.gtd_hours_holiday_rules.specs.declared.items.What.{What}
-use Rattle.gtd_hours_holiday_rules.specs.declared.items.What.TheVariants as what
+use Rattle.gtd_hours_items.specs.declared.items.Item.{Item}
+use Rattle.gtd_hours_items.specs.declared.items.What.{What}
+use Rattle.gtd_hours_items.specs.declared.items.What.TheVariants as what
 use Rattle.gtd_hours_holiday_rules.specs.declared.behind.Behind.{Behind}
 use Rattle.gtd_hours_holiday_rules.specs.declared.behind.Behind.TheVariants as behind
 use Rattle.gtd_hours_holiday_rules.specs.declared.behind.Last.{Last}
@@ -102,7 +104,7 @@ behind_after b role.Fallback item = behind.Front
 behind_after b (role.Leading h) item = after_leading b item.from
 behind_after b (role.Listed h) item = after_listed b
 behind_after b (role.Dated days) item = after_dated b
-behind_after b (role.Known days) item = after_dated b
+behind_after b (role.Known days place) item = after_dated b
 behind_after b role.Misfit item = b
 behind_after b role.Silent item = behind.Done
 behind_after b role.UnknownWord item = behind.Done
@@ -116,7 +118,7 @@ abbrev pub last_token : TokenKind → Last
 last_token kind.Comma = last.Comma
 last_token (kind.Number v d) = last.Unfinished
 last_token kind.Plus = last.Unfinished
-last_token kind.Dash = last.Unfinished
+last_token kind.Dash = last.Dash
 last_token kind.Open = last.Modifier
 last_token kind.Closed = last.Modifier
 last_token kind.Week = last.NoComment
@@ -127,12 +129,17 @@ abbrev pub last_holiday : Listed → Last
 last_holiday (listed.Public offset) = last.Public
 last_holiday h = last.Other
 
+-- behind a range to or from Easter it is as behind any other
+abbrev pub last_easter : EasterDays → Last
+last_easter (easter.Day offset) = last.Easter
+last_easter (easter.Range range) = last.Dates
+
 abbrev pub last_of : What → Last
 last_of (what.Token k) = last_token k
 last_of (what.Holiday h) = last_holiday h
 last_of (what.Dates days) = last.Dates
-last_of (what.NoDates bad) = last.NoDates bad
-last_of (what.Easter offset) = last.Easter
+last_of (what.NoDates bad by_easter) = last.NoDates bad
+last_of (what.Easter days place) = last_easter days
 last_of what.Comment = last.NoComment
 last_of what.Unknown = last.Modifier
 last_of what.Fallback = last.Other

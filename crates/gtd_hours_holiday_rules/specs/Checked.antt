@@ -2,8 +2,8 @@
 use Rattle.std.specs.Prelude.{ℕ, zero, suc, ◌+◌, ◌-◌, List, [], ◌∷◌, Option, Some, None, codes, drop, set}
 use Rattle.std.specs.Prelude.{get_or, length, nat_lt, if◌then◌else◌}
 use Rattle.std.specs.Char.{is_ascii_alphabetic}
-use Rattle.gtd_hours_holiday_rules.specs.Items.{stretch}
-use Rattle.gtd_hours_holiday_rules.specs.declared.items.Item.{Item}
+use Rattle.gtd_hours_moving.specs.Words.{stretch}
+use Rattle.gtd_hours_items.specs.declared.items.Item.{Item}
 use Rattle.gtd_hours_holiday_rules.specs.declared.parts.Part.{Part}
 use Rattle.gtd_hours_holiday_rules.specs.declared.role.Role.{Role}
 use Rattle.gtd_hours_holiday_rules.specs.declared.role.Role.TheVariants as role
@@ -40,7 +40,7 @@ form_of text item (role.Leading h) = Some []
 form_of text item role.Gone = Some []
 form_of text item (role.Listed h) = Some (codes "Mo")
 form_of text item (role.Dated days) = Some (dates_form text item)
-form_of text item (role.Known days) = Some (dates_form text item)
+form_of text item (role.Known days place) = Some (dates_form text item)
 form_of text item role.Undated = Some (dates_form text item)
 form_of text item role.Doubtful = Some (codes "PH")
 form_of text item role.Misfit = Some (codes "]")

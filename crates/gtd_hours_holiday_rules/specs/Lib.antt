@@ -1,8 +1,3 @@
-pub mod Offsets
-pub mod Fronts
-pub mod Items
-pub mod Comments
-pub mod Coming
 pub mod Behind
 pub mod Roles
 pub mod Told
@@ -10,5 +5,6 @@ pub mod Parts
 pub mod Checked
 pub mod Rules
 pub mod Reading
-pub mod facts
 pub use Rattle.gtd_hours_tokens.specs.Lexing
+pub use Rattle.gtd_hours_items.specs.Items
+pub use Rattle.gtd_hours_items.specs.Comments

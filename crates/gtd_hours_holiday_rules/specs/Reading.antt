@@ -3,13 +3,11 @@ use Rattle.std.specs.Prelude.{ℕ, List, ◌≡◌, map, true}
 use Rattle.gtd_hours_tokens.specs.Lexing.{AreTokens}
 use Rattle.gtd_hours_tokens.specs.declared.token.Token.{Token}
 use Rattle.gtd_hours_holiday_rules.specs.declared.parts.Part.{Part}
-use Rattle.gtd_hours_holiday_rules.specs.declared.stop.NoHolidayText.{NoHolidayText}
-use Rattle.gtd_hours_holiday_rules.specs.declared.stop.NoHolidayText.TheVariants as stop
 use Rattle.gtd_hours_holiday_rules.specs.declared.text.HolidayText.{HolidayText}
 use Rattle.gtd_hours_holiday_rules.specs.Checked.{checked_text}
-use Rattle.gtd_hours_holiday_rules.specs.Comments.{IsBadPlace, are_whole}
-use Rattle.gtd_hours_holiday_rules.specs.Items.{AreItems}
-use Rattle.gtd_hours_holiday_rules.specs.declared.items.Item.{Item}
+use Rattle.gtd_hours_items.specs.Comments.{are_whole}
+use Rattle.gtd_hours_items.specs.Items.{AreItems}
+use Rattle.gtd_hours_items.specs.declared.items.Item.{Item}
 use Rattle.gtd_hours_holiday_rules.specs.Parts.{parts_of, told_of}
 use Rattle.gtd_hours_holiday_rules.specs.Rules.{rules_of, said_by}
 
@@ -31,8 +29,3 @@ pub record IsHolidayText (text : List ℕ) (read : HolidayText) : Type 0 where
   pub are : AreTokens text tokens
   pub whole : are_whole text tokens ≡ true
   pub has : HasItems text tokens read
-
--- Why it is not: a byte with which no token begins or a comment that is not whole, whichever stands first, or want of memory.
-abbrev pub IsNoHolidayText : List ℕ → NoHolidayText → Type 0
-IsNoHolidayText text (stop.BadToken place) = IsBadPlace text place
-IsNoHolidayText text stop.NoMemory = Unit {0}

@@ -1,14 +1,13 @@
 -- What becomes of an item, by what stands behind and before it.
-use Rattle.std.specs.Prelude.{Bool, true, false, ◌&&◌, ◌||◌, not, List, if◌then◌else◌}
+use Rattle.std.specs.Prelude.{ℕ, Bool, true, false, ◌&&◌, ◌||◌, not, List, if◌then◌else◌}
 use Rattle.gtd_hours.specs.declared.hours.Link.TheVariants as link
 use Rattle.gtd_hours_days.specs.declared.listed.Listed.{Listed}
-use Rattle.gtd_hours_days.specs.declared.listed.Listed.TheVariants as listed
-use Rattle.gtd_hours_days.specs.declared.offset.Offset.{Offset}
+use Rattle.gtd_hours_days.specs.declared.listed.EasterDays.{EasterDays}
 use Rattle.gtd_hours_tokens.specs.declared.token.TokenKind.{TokenKind}
 use Rattle.gtd_hours_tokens.specs.declared.token.TokenKind.TheVariants as kind
-use Rattle.gtd_hours_holiday_rules.specs.declared.items.Item.{Item}
-use Rattle.gtd_hours_holiday_rules.specs.declared.items.What.{What}
-use Rattle.gtd_hours_holiday_rules.specs.declared.items.What.TheVariants as what
+use Rattle.gtd_hours_items.specs.declared.items.Item.{Item}
+use Rattle.gtd_hours_items.specs.declared.items.What.{What}
+use Rattle.gtd_hours_items.specs.declared.items.What.TheVariants as what
 use Rattle.gtd_hours_holiday_rules.specs.declared.behind.Behind.{Behind}
 use Rattle.gtd_hours_holiday_rules.specs.declared.behind.Behind.TheVariants as behind
 use Rattle.gtd_hours_holiday_rules.specs.declared.behind.Last.{Last}
@@ -17,8 +16,8 @@ use Rattle.gtd_hours_holiday_rules.specs.declared.behind.Position.{Position}
 use Rattle.gtd_hours_holiday_rules.specs.declared.role.Role.{Role}
 use Rattle.gtd_hours_holiday_rules.specs.declared.role.Role.TheVariants as role
 use Rattle.gtd_hours_holiday_rules.specs.Behind.{is_commented, is_faulty}
-use Rattle.gtd_hours_holiday_rules.specs.Coming.{begins, begins_date, begins_month_days, is_dash, is_dates, is_holiday}
-use Rattle.gtd_hours_holiday_rules.specs.Coming.{is_month, is_number, is_time, is_weekday, is_year, leads}
+use Rattle.gtd_hours_items.specs.Coming.{begins, begins_date, begins_month_days, is_dates, is_holiday}
+use Rattle.gtd_hours_items.specs.Coming.{is_month, is_number, is_time, is_weekday, is_year, leads}
 
 -- a holiday where a list of days begins
 abbrev pub first_role : Listed → List Item → Role
@@ -28,6 +27,7 @@ first_role h later = if leads false later then role.Leading h else role.Listed h
 abbrev pub joined_role : Bool → Last → Listed → Role
 joined_role false last.Comma h = role.Listed h
 joined_role led last.Unfinished h = role.Misfit
+joined_role led last.Dash h = role.Misfit
 joined_role led l h = role.Doubtful
 
 abbrev pub holiday_role : Behind → Last → Listed → List Item → Role
@@ -107,10 +107,10 @@ number_role last.Dates = role.Misfit
 number_role last.Easter = role.Misfit
 number_role l = role.Kept
 
--- Easter: it is not read directly behind a number or a sign, nor before a dash
-abbrev pub easter_role : Last → Offset → List Item → Role
-easter_role last.Unfinished offset later = role.Kept
-easter_role l offset later = if begins is_dash later then role.Kept else role.Known (listed.Easter offset)
+-- days of Easter: a dash directly before them goes on with no range
+abbrev pub easter_role : Last → EasterDays → ℕ → Role
+easter_role last.Dash days place = role.Kept
+easter_role l days place = role.Known days place
 
 -- a colon: the rule's own text has none behind ranges that move and Easter
 abbrev pub colon_role : Behind → Role
@@ -152,8 +152,8 @@ abbrev pub role_in : Position → What → List Item → Role
 role_in p (what.Holiday h) later = holiday_role p.behind p.last h later
 role_in p (what.Token k) later = token_role p.behind p.last k later
 role_in p (what.Dates days) later = role.Dated days
-role_in p (what.NoDates bad) later = role.Undated
-role_in p (what.Easter offset) later = easter_role p.last offset later
+role_in p (what.NoDates bad by_easter) later = role.Undated
+role_in p (what.Easter days place) later = easter_role p.last days place
 role_in p what.Comment later = comment_role p.behind p.last
 role_in p what.Fallback later = role.Fallback
 role_in p what.Unknown later = role.UnknownWord

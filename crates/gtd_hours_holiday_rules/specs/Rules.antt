@@ -4,14 +4,15 @@ use Rattle.std.specs.Prelude.{[], ◌∷◌, ◌++◌, Option, Some, None, codes
 use Rattle.gtd_hours.specs.declared.hours.Link.{Link}
 use Rattle.gtd_hours.specs.declared.hours.Link.TheVariants as link
 use Rattle.gtd_hours.specs.declared.hours.Selector.{Selector}
+use Rattle.gtd_hours_days.specs.declared.listed.EasterDays.{EasterDays}
 use Rattle.gtd_hours_days.specs.declared.listed.Listed.{Listed}
-use Rattle.gtd_hours_holiday_rules.specs.declared.items.Item.{Item}
+use Rattle.gtd_hours_items.specs.declared.items.Item.{Item}
 use Rattle.gtd_hours_holiday_rules.specs.declared.parts.Part.{Part}
 use Rattle.gtd_hours_holiday_rules.specs.declared.role.Role.{Role}
 use Rattle.gtd_hours_holiday_rules.specs.declared.role.Role.TheVariants as role
 use Rattle.gtd_hours_holiday_rules.specs.declared.rules.Cut.{Cut}
 use Rattle.gtd_hours_holiday_rules.specs.declared.rules.HolidayRule.{HolidayRule}
-use Rattle.gtd_hours_holiday_rules.specs.Items.{stretch}
+use Rattle.gtd_hours_moving.specs.Words.{stretch}
 
 -- What a rule says, apart from how it is kept in memory.
 pub record Said : Type 0 where
@@ -21,7 +22,7 @@ pub record Said : Type 0 where
   pub holidays : List Listed
   pub places : List ℕ
   pub dates : List Selector
-  pub easter : List Listed
+  pub easter : List EasterDays
   pub easter_places : List ℕ
   pub unknown : Option ℕ
   pub remark : Option ℕ
@@ -64,21 +65,21 @@ with_holiday rule h place = record rule { holidays = rule.holidays ++ h ∷ []; 
 abbrev pub with_date : Said → Selector → Said
 with_date rule days = record rule { dates = rule.dates ++ days ∷ [] }
 
-abbrev pub with_easter : Said → Listed → ℕ → Said
+abbrev pub with_easter : Said → EasterDays → ℕ → Said
 with_easter rule days place =
     record rule { easter = rule.easter ++ days ∷ []; easter_places = rule.easter_places ++ place ∷ [] }
 
 abbrev pub with_leading : Said → Listed → ℕ → Said
 with_leading rule h place = record (with_holiday rule h place) { is_led = true }
 
--- An item with this role goes on with a rule: its bytes and a space (32), its holiday, its range of days that moves, its day of
+-- An item with this role goes on with a rule: its bytes and a space (32), its holiday, its range of days that moves, its days of
 -- Easter, or the place where it makes the rule unknown or remarks on it.
 abbrev pub with_item : List ℕ → Said → Role → Item → Said
 with_item text rule role.Kept item = with_text rule (stretch text item.from item.to ++ 32 ∷ [])
 with_item text rule (role.Leading h) item = with_leading rule h item.from
 with_item text rule (role.Listed h) item = with_holiday rule h item.from
 with_item text rule (role.Dated days) item = with_date rule days
-with_item text rule (role.Known days) item = with_easter rule days item.from
+with_item text rule (role.Known days place) item = with_easter rule days place
 with_item text rule role.UnknownWord item = record rule { unknown = Some item.from }
 with_item text rule role.UnknownComment item = record rule { unknown = Some item.from }
 with_item text rule role.Remark item = record rule { remark = Some item.from }

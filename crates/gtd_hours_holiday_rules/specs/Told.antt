@@ -5,9 +5,9 @@ use Rattle.gtd_hours_grammar.specs.declared.fault.FaultKind.{FaultKind}
 use Rattle.gtd_hours_grammar.specs.declared.fault.FaultKind.TheVariants as fault
 use Rattle.gtd_hours_grammar.specs.declared.fault.HoursFault.{HoursFault}
 use Rattle.gtd_hours_tokens.specs.declared.token.TokenKind.TheVariants as kind
-use Rattle.gtd_hours_holiday_rules.specs.declared.items.Item.{Item}
-use Rattle.gtd_hours_holiday_rules.specs.declared.items.What.{What}
-use Rattle.gtd_hours_holiday_rules.specs.declared.items.What.TheVariants as what
+use Rattle.gtd_hours_items.specs.declared.items.Item.{Item}
+use Rattle.gtd_hours_items.specs.declared.items.What.{What}
+use Rattle.gtd_hours_items.specs.declared.items.What.TheVariants as what
 use Rattle.gtd_hours_holiday_rules.specs.declared.behind.Behind.{Behind}
 use Rattle.gtd_hours_holiday_rules.specs.declared.behind.Behind.TheVariants as behind
 use Rattle.gtd_hours_holiday_rules.specs.declared.behind.Last.{Last}
@@ -21,7 +21,7 @@ use Rattle.gtd_hours_holiday_rules.specs.declared.told.Instead.{Instead}
 use Rattle.gtd_hours_holiday_rules.specs.declared.told.Instead.TheVariants as instead
 use Rattle.gtd_hours_holiday_rules.specs.declared.told.Told.{Told}
 use Rattle.gtd_hours_holiday_rules.specs.Behind.{is_commented}
-use Rattle.gtd_hours_holiday_rules.specs.Coming.{begins, is_number, is_weekday}
+use Rattle.gtd_hours_items.specs.Coming.{begins, is_number, is_weekday}
 
 abbrev pub is_day : What → Bool
 is_day (what.Token kind.Day) = true
@@ -60,17 +60,25 @@ sign_fault l place later =
     else if has_offset l && begins is_weekday later then record { kind = fault.Unsupported; place = first_place place later }
     else record { kind = fault.Unexpected; place = place }
 
+-- an item that stands there begins with `easter`
+abbrev pub easter_first : What → ℕ → Bool
+easter_first (what.Easter days place) from = place == from
+easter_first (what.NoDates bad by_easter) from = by_easter
+easter_first w from = false
+
+abbrev pub begins_easter : Item → Bool
+begins_easter item = easter_first item.what item.from
+
 -- a word or a sign that is not read there
 abbrev pub is_foreign : What → Bool
 is_foreign (what.Token kind.Unsupported) = true
 is_foreign (what.Token kind.Plus) = true
-is_foreign (what.Easter offset) = true
 is_foreign w = false
 
 -- what is wrong at an item that nothing of its kind can follow: behind a comment on its rule, or a range that moves
 abbrev pub fault_at : Item → HoursFault
 fault_at item =
-    if is_foreign item.what then record { kind = fault.Unsupported; place = item.from }
+    if is_foreign item.what || begins_easter item then record { kind = fault.Unsupported; place = item.from }
     else record { kind = fault.Unexpected; place = item.from }
 
 -- What is wrong at an item that cannot stand where it does.
@@ -91,7 +99,8 @@ plus_kind w = fault.Unsupported
 abbrev pub misfit_kind : What → What → FaultKind → FaultKind
 misfit_kind before (what.Token kind.Plus) k = plus_kind before
 misfit_kind before (what.Token t) k = k
-misfit_kind before (what.Easter offset) k = k
+misfit_kind before (what.Easter days place) k = k
+misfit_kind before (what.NoDates bad by_easter) k = k
 misfit_kind before w k = fault.Unexpected
 
 -- with the item of this fault among these behind another
@@ -124,15 +133,17 @@ abbrev pub led_instead : Behind → What → Option Instead
 led_instead (behind.Led from) w = if is_weekday w then Some (instead.Place from) else None
 led_instead b w = None
 
--- Easter that cannot stand where it does is not read there.
-abbrev pub unread_fault : Item → HoursFault
-unread_fault item = record { kind = fault.Unsupported; place = item.from }
+-- `easter` that cannot stand where it does is not read there.
+abbrev pub unread_instead : Item → Option Instead
+unread_instead item =
+    if begins_easter item then Some (instead.Fault (record { kind = fault.Unsupported; place = item.from })) else None
 
 -- How a fault at an item with this role is told, if not as it is.
 abbrev pub instead_of : Position → Role → Item → List Item → Option Instead
 instead_of p role.Doubtful item later = Some (instead.Ambiguous item.from)
 instead_of p role.Misfit item later = Some (instead.Fault (misfit_fault p item later))
-instead_of p (role.Known days) item later = Some (instead.Fault (unread_fault item))
+instead_of p (role.Known days place) item later = unread_instead item
+instead_of p role.Undated item later = unread_instead item
 instead_of p role.Remark item later = Some (instead.Place item.from)
 instead_of p role.UnknownComment item later = Some (instead.Place item.from)
 instead_of p r item later = led_instead p.behind item.what

@@ -4,12 +4,12 @@ ghost use Rattle.std.specs.Prelude.{◌≡◌};
 ghost use Rattle.gtd_hours_holiday_rules.specs.Behind.{after, after_close, after_colon, after_dated, after_leading, after_listed};
 ghost use Rattle.gtd_hours_holiday_rules.specs.Behind.{after_month, after_number, after_open, after_token, after_weekday};
 ghost use Rattle.gtd_hours_holiday_rules.specs.Behind.{after_what, behind_after, front, is_commented, is_faulty, last_holiday};
-ghost use Rattle.gtd_hours_holiday_rules.specs.Behind.{last_of, last_token};
+ghost use Rattle.gtd_hours_holiday_rules.specs.Behind.{last_easter, last_of, last_token};
 
-use crate::items::{Item, What};
 use crate::role::Role;
-use gtd_hours_days::Listed;
+use gtd_hours_days::{EasterDays, Listed};
 use gtd_hours_grammar::HoursFault;
+use gtd_hours_items::{Item, What};
 use gtd_hours_tokens::TokenKind;
 
 /// What stands behind the items of a text so far.
@@ -62,8 +62,10 @@ pub enum Behind {
 pub enum Last {
     /// A comma.
     Comma,
-    /// A number, or the sign of an offset or of a range: no selector ends here.
+    /// A number or a plus: no selector of days ends here.
     Unfinished,
+    /// The dash of an offset or of a range.
+    Dash,
     /// A public holiday.
     Public,
     /// A range of days that moves.
@@ -259,7 +261,7 @@ fn behind_after(behind: Behind, role: Role, item: Item) -> Behind
         Role::Leading(_) => after_leading(behind, item.from),
         Role::Listed(_) => after_listed(behind),
         Role::Dated(_) => after_dated(behind),
-        Role::Known(_) => after_dated(behind),
+        Role::Known { .. } => after_dated(behind),
         Role::Misfit => behind,
         Role::Silent => Behind::Done,
         Role::UnknownWord => Behind::Done,
@@ -276,7 +278,7 @@ fn last_token(kind: TokenKind) -> Last
         TokenKind::Comma => Last::Comma,
         TokenKind::Number { .. } => Last::Unfinished,
         TokenKind::Plus => Last::Unfinished,
-        TokenKind::Dash => Last::Unfinished,
+        TokenKind::Dash => Last::Dash,
         TokenKind::Open => Last::Modifier,
         TokenKind::Closed => Last::Modifier,
         TokenKind::Week => Last::NoComment,
@@ -294,6 +296,15 @@ fn last_holiday(holiday: Listed) -> Last
     }
 }
 
+fn last_easter(days: EasterDays) -> Last
+    ensures { result ≡ last_easter days }
+{
+    match days {
+        EasterDays::Day { .. } => Last::Easter,
+        EasterDays::Range(_) => Last::Dates,
+    }
+}
+
 fn last_of(what: What) -> Last
     ensures { result ≡ last_of what }
 {
@@ -301,8 +312,8 @@ fn last_of(what: What) -> Last
         What::Token(kind) => last_token(kind),
         What::Holiday(holiday) => last_holiday(holiday),
         What::Dates(_) => Last::Dates,
-        What::NoDates(bad) => Last::NoDates(bad),
-        What::Easter(_) => Last::Easter,
+        What::NoDates { bad, .. } => Last::NoDates(bad),
+        What::Easter { days, .. } => last_easter(days),
         What::Comment => Last::NoComment,
         What::Unknown => Last::Modifier,
         What::Fallback => Last::Other,

@@ -4,9 +4,10 @@ ghost use Rattle.std.specs.Prelude.{◌≡◌, ◌-◌, IfOk, drop, option_map, 
 ghost use Rattle.gtd_hours_holiday_rules.specs.Checked.{byte_before, checked_from, checked_text, comment_form, dates_form};
 ghost use Rattle.gtd_hours_holiday_rules.specs.Checked.{first_or_space, form_of, put_over, written_over};
 
-use crate::items::{Item, stretch};
 use crate::parts::Part;
 use crate::role::Role;
+use gtd_hours_items::Item;
+use gtd_hours_moving::stretch;
 use std::alloc::{AllocError, Global};
 
 fn put_byte(bytes: &mut [u8], place: usize, byte: u8)
@@ -96,7 +97,7 @@ fn form_of(text: &[u8], item: Item, role: Role) -> Option<&'static [u8]>
         Role::Gone => Some(b"".as_slice()),
         Role::Listed(_) => Some(b"Mo".as_slice()),
         Role::Dated(_) => Some(dates_form(text, item)),
-        Role::Known(_) => Some(dates_form(text, item)),
+        Role::Known { .. } => Some(dates_form(text, item)),
         Role::Undated => Some(dates_form(text, item)),
         Role::Doubtful => Some(b"PH".as_slice()),
         Role::Misfit => Some(b"]".as_slice()),

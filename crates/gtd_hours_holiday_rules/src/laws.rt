@@ -1,7 +1,7 @@
 //! Laws of the definitions: calls that do nothing, whose contracts are what is proved.
 
 ghost use Rattle.std.specs.Prelude.{◌≡◌, ℕ, List, length, map};
-ghost use Rattle.gtd_hours_holiday_rules.specs.Comments.{IsBadPlace};
+ghost use Rattle.gtd_hours_items.specs.Comments.{IsBadPlace};
 ghost use Rattle.gtd_hours_holiday_rules.specs.Reading.{IsHolidayText};
 ghost use Rattle.gtd_hours_holiday_rules.specs.Rules.{HavePlaces, said_by};
 ghost use Rattle.gtd_hours_holiday_rules.specs.declared.text.HolidayText.{HolidayText};

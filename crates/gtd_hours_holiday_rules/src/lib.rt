@@ -7,22 +7,15 @@
 
 mod behind;
 mod checked;
-mod coming;
-mod comments;
-mod fronts;
-mod items;
 pub mod laws;
-mod offsets;
 mod parts;
 mod role;
 mod roles;
 mod rules;
-mod stop;
 mod text;
-mod tokens;
 mod told;
 
+pub use gtd_hours_items::NoHolidayText;
 pub use rules::HolidayRule;
-pub use stop::NoHolidayText;
 pub use text::{HolidayText, holiday_text};
 pub use told::{HolidayFault, Instead, Told, told_fault};

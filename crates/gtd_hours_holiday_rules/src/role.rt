@@ -1,7 +1,7 @@
 //! What becomes of an item.
 
 use gtd_hours::{Link, Selector};
-use gtd_hours_days::Listed;
+use gtd_hours_days::{EasterDays, Listed};
 
 /// What becomes of an item, in the checked text and in the text of its rule.
 #[derive(Clone, Copy)]
@@ -19,7 +19,12 @@ pub enum Role {
     /// Month days of the rule that are not in its own text: a month stands for them in the checked text.
     Dated(Selector),
     /// Days of Easter, month days of the rule that are not in its own text: a month stands for them in the checked text.
-    Known(Listed),
+    Known {
+        /// The days.
+        days: EasterDays,
+        /// The number of bytes before the first `easter`.
+        place: usize,
+    },
     /// Month days that have a fault: a month stands for them in the checked text, which has a fault behind it.
     Undated,
     /// People read what stands here in two ways: the checked text has a fault here.

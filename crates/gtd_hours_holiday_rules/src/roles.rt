@@ -7,14 +7,13 @@ ghost use Rattle.gtd_hours_holiday_rules.specs.Roles.{holiday_role, joined_role,
 ghost use Rattle.gtd_hours_holiday_rules.specs.Roles.{role_of, separates, sign_role, token_role, weekday_role};
 
 use crate::behind::{Behind, Last, Position, is_commented, is_faulty};
-use crate::coming::{
-    begins_dash, begins_date, begins_dates, begins_holiday, begins_month, begins_month_days,
-    begins_number, begins_time, begins_weekday, begins_year, leads,
-};
-use crate::items::{Item, What};
 use crate::role::Role;
 use gtd_hours::Link;
-use gtd_hours_days::{Listed, Offset};
+use gtd_hours_days::{EasterDays, Listed};
+use gtd_hours_items::{
+    Item, What, begins_date, begins_dates, begins_holiday, begins_month, begins_month_days,
+    begins_number, begins_time, begins_weekday, begins_year, leads,
+};
 use gtd_hours_tokens::TokenKind;
 
 // A holiday where a list of days begins.
@@ -41,6 +40,7 @@ fn joined_role(led: bool, last: Last, holiday: Listed) -> Role
             }
         }
         Last::Unfinished => Role::Misfit,
+        Last::Dash => Role::Misfit,
         _ => Role::Doubtful,
     }
 }
@@ -192,19 +192,13 @@ fn number_role(last: Last) -> Role
     }
 }
 
-// Easter: it is not read directly behind a number or a sign, nor before a dash.
-fn easter_role(last: Last, offset: Offset, later: &[Item]) -> Role
-    ensures { result ≡ easter_role last offset later.now }
+// Days of Easter: a dash directly before them goes on with no range.
+fn easter_role(last: Last, days: EasterDays, place: usize) -> Role
+    ensures { result ≡ easter_role last days place }
 {
     match last {
-        Last::Unfinished => Role::Kept,
-        _ => {
-            if begins_dash(later) {
-                Role::Kept
-            } else {
-                Role::Known(Listed::Easter { offset })
-            }
-        }
+        Last::Dash => Role::Kept,
+        _ => Role::Known { days, place },
     }
 }
 
@@ -263,8 +257,8 @@ fn role_in(position: Position, what: What, later: &[Item]) -> Role
         What::Holiday(holiday) => holiday_role(position.behind, position.last, holiday, later),
         What::Token(kind) => token_role(position.behind, position.last, kind, later),
         What::Dates(days) => Role::Dated(days),
-        What::NoDates(_) => Role::Undated,
-        What::Easter(offset) => easter_role(position.last, offset, later),
+        What::NoDates { .. } => Role::Undated,
+        What::Easter { days, place } => easter_role(position.last, days, place),
         What::Comment => comment_role(position.behind, position.last),
         What::Fallback => Role::Fallback,
         What::Unknown => Role::UnknownWord,

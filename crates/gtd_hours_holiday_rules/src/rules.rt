@@ -5,11 +5,12 @@ ghost use Rattle.gtd_hours_holiday_rules.specs.Rules.{all_rules, begun, ended, l
 ghost use Rattle.gtd_hours_holiday_rules.specs.Rules.{with_date, with_easter, with_holiday, with_item, with_text};
 ghost use Rattle.gtd_hours_holiday_rules.specs.declared.parts.Part.{Part};
 
-use crate::items::{Item, stretch};
 use crate::parts::Part;
 use crate::role::Role;
 use gtd_hours::{Link, Selector};
-use gtd_hours_days::Listed;
+use gtd_hours_days::{EasterDays, Listed};
+use gtd_hours_items::Item;
+use gtd_hours_moving::stretch;
 use std::alloc::{AllocError, Global};
 use std::mem::replace;
 
@@ -30,8 +31,8 @@ pub struct HolidayRule {
     /// Its ranges of days that move, from left to right: they are beside the month days of its text.
     pub dates: Vec<Selector>,
     /// Its days of Easter, from left to right: they are month days, too.
-    pub easter: Vec<Listed>,
-    /// Where each of these begins in the whole text.
+    pub easter: Vec<EasterDays>,
+    /// Where the first `easter` of each of these stands in the whole text.
     pub easter_places: Vec<usize>,
     /// The number of bytes before the word or the comment that makes it unknown, if it is.
     pub unknown: Option<usize>,
@@ -88,7 +89,7 @@ fn push_date(rule: &mut HolidayRule, days: Selector) -> Result<(), AllocError>
     Ok(())
 }
 
-fn push_easter(rule: &mut HolidayRule, days: Listed, place: usize) -> Result<(), AllocError>
+fn push_easter(rule: &mut HolidayRule, days: EasterDays, place: usize) -> Result<(), AllocError>
     ensures { OnOk result (said_by rule.new ≡ with_easter (said_by rule.old) days place) }
 {
     rule.easter.push(days)?;
@@ -108,7 +109,7 @@ fn push_item(rule: &mut HolidayRule, text: &[u8], role: Role, item: Item) -> Res
         }
         Role::Listed(holiday) => push_holiday(rule, holiday, item.from),
         Role::Dated(days) => push_date(rule, days),
-        Role::Known(days) => push_easter(rule, days, item.from),
+        Role::Known { days, place } => push_easter(rule, days, place),
         Role::UnknownWord => {
             rule.unknown = Some(item.from);
             Ok(())

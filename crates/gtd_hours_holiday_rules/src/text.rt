@@ -1,15 +1,14 @@
 //! A text with holidays, comments, unknown and fallback rules as plain hours and what is said beside them.
 
 ghost use Rattle.std.specs.Prelude.{◌≡◌, IfErr, IfOk, length};
-ghost use Rattle.gtd_hours_holiday_rules.specs.Reading.{HasItems, HasParts, IsHolidayText, IsNoHolidayText};
+ghost use Rattle.gtd_hours_holiday_rules.specs.Reading.{HasItems, HasParts, IsHolidayText};
+ghost use Rattle.gtd_hours_items.specs.Comments.{IsNoHolidayText};
 
 use crate::checked::checked_text;
-use crate::items::items_of;
 use crate::parts::{Part, parts_of, told_of};
 use crate::rules::{HolidayRule, rules_of};
-use crate::stop::NoHolidayText;
-use crate::tokens::tokens_of;
 use crate::told::Told;
+use gtd_hours_items::{NoHolidayText, items_of, tokens_of};
 use gtd_hours_tokens::Token;
 use std::alloc::{AllocError, Global};
 

@@ -1,17 +1,16 @@
 //! How faults of the checked text are told.
 
 ghost use Rattle.std.specs.Prelude.{◌≡◌};
-ghost use Rattle.gtd_hours_holiday_rules.specs.Coming.{begins};
-ghost use Rattle.gtd_hours_holiday_rules.specs.Told.{begins_days, behind_first, fault_at, fault_by, fault_in_range};
-ghost use Rattle.gtd_hours_holiday_rules.specs.Told.{first_place, has_offset, instead_of, is_dates, is_day, is_foreign};
+ghost use Rattle.gtd_hours_items.specs.Coming.{begins};
+ghost use Rattle.gtd_hours_holiday_rules.specs.Told.{begins_days, begins_easter, behind_first, easter_first, fault_at, fault_by};
+ghost use Rattle.gtd_hours_holiday_rules.specs.Told.{fault_in_range, first_place, has_offset, instead_of, is_dates, is_day, is_foreign};
 ghost use Rattle.gtd_hours_holiday_rules.specs.Told.{is_misfit, is_sign, kind_among, led_instead, misfit_fault, misfit_kind};
-ghost use Rattle.gtd_hours_holiday_rules.specs.Told.{plus_kind, sign_fault, told_at, told_fault, unfit_fault, unread_fault};
+ghost use Rattle.gtd_hours_holiday_rules.specs.Told.{plus_kind, sign_fault, told_at, told_fault, unfit_fault, unread_instead};
 
 use crate::behind::{Behind, Last, Position, is_commented};
-use crate::coming::{begins_weekday, is_number, is_weekday};
-use crate::items::{Item, What};
 use crate::role::Role;
 use gtd_hours_grammar::{FaultKind, HoursFault};
+use gtd_hours_items::{Item, What, begins_weekday, is_number, is_weekday};
 use gtd_hours_tokens::TokenKind;
 use thiserror::Error;
 
@@ -141,6 +140,23 @@ fn sign_fault(last: Last, place: usize, later: &[Item]) -> HoursFault
     }
 }
 
+fn easter_first(what: What, from: usize) -> bool
+    ensures { result ≡ easter_first what from }
+{
+    match what {
+        What::Easter { place, .. } => place == from,
+        What::NoDates { is_easter, .. } => is_easter,
+        _ => false,
+    }
+}
+
+// Whether an item begins with `easter`.
+fn begins_easter(item: Item) -> bool
+    ensures { result ≡ begins_easter item }
+{
+    easter_first(item.what, item.from)
+}
+
 // A word or a sign that is not read there.
 fn is_foreign(what: What) -> bool
     ensures { result ≡ is_foreign what }
@@ -148,7 +164,6 @@ fn is_foreign(what: What) -> bool
     match what {
         What::Token(TokenKind::Unsupported) => true,
         What::Token(TokenKind::Plus) => true,
-        What::Easter(_) => true,
         _ => false,
     }
 }
@@ -157,7 +172,7 @@ fn is_foreign(what: What) -> bool
 fn fault_at(item: Item) -> HoursFault
     ensures { result ≡ fault_at item }
 {
-    if is_foreign(item.what) {
+    if is_foreign(item.what) || begins_easter(item) {
         HoursFault {
             kind: FaultKind::Unsupported,
             place: item.from,
@@ -211,7 +226,8 @@ fn misfit_kind(before: What, what: What, kind: FaultKind) -> FaultKind
     match what {
         What::Token(TokenKind::Plus) => plus_kind(before),
         What::Token(_) => kind,
-        What::Easter(_) => kind,
+        What::Easter { .. } => kind,
+        What::NoDates { .. } => kind,
         _ => FaultKind::Unexpected,
     }
 }
@@ -283,13 +299,17 @@ fn led_instead(behind: Behind, what: What) -> Option<Instead>
     }
 }
 
-// Easter that cannot stand where it does is not read there.
-fn unread_fault(item: Item) -> HoursFault
-    ensures { result ≡ unread_fault item }
+// `easter` that cannot stand where it does is not read there.
+fn unread_instead(item: Item) -> Option<Instead>
+    ensures { result ≡ unread_instead item }
 {
-    HoursFault {
-        kind: FaultKind::Unsupported,
-        place: item.from,
+    if begins_easter(item) {
+        Some(Instead::Fault(HoursFault {
+            kind: FaultKind::Unsupported,
+            place: item.from,
+        }))
+    } else {
+        None
     }
 }
 
@@ -300,7 +320,8 @@ pub fn instead_of(position: Position, role: Role, item: Item, later: &[Item]) ->
     match role {
         Role::Doubtful => Some(Instead::Ambiguous { place: item.from }),
         Role::Misfit => Some(Instead::Fault(misfit_fault(position, item, later))),
-        Role::Known(_) => Some(Instead::Fault(unread_fault(item))),
+        Role::Known { .. } => unread_instead(item),
+        Role::Undated => unread_instead(item),
         Role::Remark => Some(Instead::Place(item.from)),
         Role::UnknownComment => Some(Instead::Place(item.from)),
         _ => led_instead(position.behind, item.what),

@@ -4,9 +4,10 @@ use Rattle.std.specs.Prelude.{IfErr, IfOk}
 use Rattle.gtd_hours_grammar.specs.Faults.{IsFirstFault}
 use Rattle.gtd_hours_grammar.specs.declared.fault.HoursFault.{HoursFault}
 use Rattle.gtd_hours_grammar.specs.facts.FirstFault.{hours_or_fault}
-use Rattle.gtd_hours_holiday_rules.specs.Reading.{IsHolidayText, IsNoHolidayText}
-use Rattle.gtd_hours_holiday_rules.specs.declared.stop.NoHolidayText.{NoHolidayText}
-use Rattle.gtd_hours_holiday_rules.specs.declared.stop.NoHolidayText.TheVariants as stop
+use Rattle.gtd_hours_holiday_rules.specs.Reading.{IsHolidayText}
+use Rattle.gtd_hours_items.specs.Comments.{IsNoHolidayText}
+use Rattle.gtd_hours_items.specs.declared.stop.NoHolidayText.{NoHolidayText}
+use Rattle.gtd_hours_items.specs.declared.stop.NoHolidayText.TheVariants as stop
 use Rattle.gtd_hours_holiday_rules.specs.declared.text.HolidayText.{HolidayText}
 use Rattle.gtd_hours_loose.specs.Reading.{IsStrict}
 use Rattle.gtd_hours_loose.specs.StrictForms.{IsLooseStop, IsStrictForm}

@@ -1,7 +1,7 @@
 -- How faults of texts with holidays are told.
 use Rattle.gtd_hours_grammar.specs.declared.fault.FaultKind.TheVariants as kind
-use Rattle.gtd_hours_holiday_rules.specs.declared.stop.NoHolidayText.{NoHolidayText}
-use Rattle.gtd_hours_holiday_rules.specs.declared.stop.NoHolidayText.TheVariants as stop
+use Rattle.gtd_hours_items.specs.declared.stop.NoHolidayText.{NoHolidayText}
+use Rattle.gtd_hours_items.specs.declared.stop.NoHolidayText.TheVariants as stop
 use Rattle.gtd_hours_holiday_rules.specs.declared.told.HolidayFault.{HolidayFault}
 use Rattle.gtd_hours_holiday_rules.specs.declared.told.HolidayFault.TheVariants as holiday
 use Rattle.gtd_hours_known.specs.declared.fault.KnownFault.{KnownFault}

@@ -4,7 +4,7 @@ use Rattle.gtd_hours.specs.declared.hours.Hours.{Hours}
 use Rattle.gtd_hours_grammar.specs.Faults.{IsFirstFault}
 use Rattle.gtd_hours_grammar.specs.declared.fault.HoursFault.{HoursFault}
 use Rattle.gtd_hours_text.specs.Standing.{StandsFor}
-use Rattle.gtd_hours_holiday_rules.specs.Comments.{IsBadPlace}
+use Rattle.gtd_hours_items.specs.Comments.{IsBadPlace}
 use Rattle.gtd_hours_holiday_rules.specs.Reading.{IsHolidayText}
 use Rattle.gtd_hours_holiday_rules.specs.Told.{told_fault}
 use Rattle.gtd_hours_holiday_rules.specs.declared.rules.HolidayRule.{HolidayRule}

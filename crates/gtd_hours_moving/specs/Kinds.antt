@@ -25,6 +25,10 @@ abbrev pub is_dash : TokenKind → Bool
 is_dash kind.Dash = true
 is_dash k = false
 
+abbrev pub is_plus : TokenKind → Bool
+is_plus kind.Plus = true
+is_plus k = false
+
 -- the sign of an offset
 abbrev pub is_sign : TokenKind → Bool
 is_sign kind.Plus = true

@@ -1,6 +1,6 @@
 pub mod Kinds
+pub mod Words
 pub mod Begins
 pub mod Reading
-pub mod Days
 pub mod Moving
 pub mod facts

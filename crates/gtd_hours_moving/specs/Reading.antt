@@ -1,6 +1,6 @@
 -- A range of days that moves is read from left to right: its numbers, or its first fault.
 use Rattle.std.specs.Prelude.{ℕ, ◌+◌, ◌*◌, ◌==◌, ◌&&◌, ◌||◌, not, nat_le, Bool, true, false, if◌then◌else◌, pos}
-use Rattle.std.specs.Prelude.{List, [], ◌∷◌, Option, Some, None, Result, Ok, Err}
+use Rattle.std.specs.Prelude.{List, [], ◌∷◌, length, Option, Some, None, Result, Ok, Err}
 use Rattle.gtd_calendar.specs.Calendar.{month_length}
 use Rattle.gtd_hours_tokens.specs.declared.token.Token.{Token}
 use Rattle.gtd_hours_tokens.specs.declared.token.TokenKind.{TokenKind}
@@ -8,14 +8,15 @@ use Rattle.gtd_hours_tokens.specs.declared.token.TokenKind.TheVariants as kind
 use Rattle.gtd_hours_grammar.specs.declared.fault.FaultKind.{FaultKind}
 use Rattle.gtd_hours_grammar.specs.declared.fault.FaultKind.TheVariants as fault
 use Rattle.gtd_hours_grammar.specs.declared.fault.HoursFault.{HoursFault}
-use Rattle.gtd_hours_moving.specs.declared.written.ReadEnd.{ReadEnd}
-use Rattle.gtd_hours_moving.specs.declared.written.ReadRange.{ReadRange}
-use Rattle.gtd_hours_moving.specs.declared.written.WrittenEnd.{WrittenEnd}
-use Rattle.gtd_hours_moving.specs.declared.written.WrittenEnd.TheVariants.{Day, Place}
-use Rattle.gtd_hours_moving.specs.declared.written.WrittenPlace.{WrittenPlace}
-use Rattle.gtd_hours_moving.specs.declared.written.WrittenRange.{WrittenRange}
-use Rattle.gtd_hours_moving.specs.Begins.{at_number, begins_offset, behind_brackets, behind_month}
-use Rattle.gtd_hours_moving.specs.Kinds.{begins, is_bracket, is_closing, is_dash, is_day, is_sign, is_weekday, later}
+use Rattle.gtd_hours_moving.specs.declared.read.ReadEnd.{ReadEnd}
+use Rattle.gtd_hours_moving.specs.declared.read.ReadRange.{ReadRange}
+use Rattle.gtd_hours_ranges.specs.declared.written.WrittenEnd.{WrittenEnd}
+use Rattle.gtd_hours_ranges.specs.declared.written.WrittenEnd.TheVariants.{Day, Easter, Place}
+use Rattle.gtd_hours_ranges.specs.declared.written.WrittenPlace.{WrittenPlace}
+use Rattle.gtd_hours_ranges.specs.declared.written.WrittenRange.{WrittenRange}
+use Rattle.gtd_hours_moving.specs.Begins.{at_number, begins_offset, behind_brackets, behind_end}
+use Rattle.gtd_hours_moving.specs.Kinds.{begins, is_bracket, is_closing, is_dash, is_day, is_plus, is_sign, is_weekday, later}
+use Rattle.gtd_hours_moving.specs.Words.{begins_easter}
 
 -- one step after another, up to the first fault
 infixl 10 ◌>>=◌
@@ -71,11 +72,11 @@ abbrev pub place_front : List Token → ℕ → Result ℕ HoursFault
 place_front [] end = Err (misfit [] end)
 place_front (t ∷ ts) end = number_at 1 4 t.from t.kind
 
--- The days of an offset, 1 to 27. An offset to a weekday is not read.
-abbrev pub days_front : List Token → ℕ → Result ℕ HoursFault
-days_front [] end = Err (misfit [] end)
-days_front (t ∷ ts) end =
-    if is_weekday t.kind then Err (fault_at fault.Unsupported t.from) else number_at 2 27 t.from t.kind
+-- The days of an offset: 1 to 27 days of a place, or 1 to 366 of Easter. An offset to a weekday is not read.
+abbrev pub days_front : ℕ → ℕ → List Token → ℕ → Result ℕ HoursFault
+days_front digits most [] end = Err (misfit [] end)
+days_front digits most (t ∷ ts) end =
+    if is_weekday t.kind then Err (fault_at fault.Unsupported t.from) else number_at digits most t.from t.kind
 
 -- a number of four digits, which is a year from 1800 to 2799; or no year
 abbrev pub year_in : ℕ → ℕ → Result (Option ℕ) HoursFault
@@ -128,7 +129,7 @@ offset_by place days sign ts end =
 abbrev pub offset_end : WrittenPlace → List Token → ℕ → Result ReadEnd HoursFault
 offset_end place [] end = Err (misfit [] end)
 offset_end place (sign ∷ ts) end = do
-  days ← days_front ts end
+  days ← days_front 2 27 ts end
   offset_by place days sign (later ts) end
 
 -- Behind the place of a last end, a sign always begins an offset. Behind that of a first end a dash may be that of the range.
@@ -160,11 +161,35 @@ month_end is_first year month [] end = Err (misfit [] end)
 month_end is_first year month (t ∷ ts) end =
     if is_weekday t.kind then place_end is_first month (weekday_of t.kind) ts end else day_end year month t
 
--- an end: `Oct 15` or `Mar Su[-1] +1 day`
-abbrev pub end_front : Bool → Option ℕ → List Token → ℕ → Result ReadEnd HoursFault
-end_front is_first year ts end = do
+-- `+1 day`: behind `easter`, which stands there
+abbrev pub easter_offset : ℕ → List Token → ℕ → Result ReadEnd HoursFault
+easter_offset from [] end = Err (misfit [] end)
+easter_offset from (sign ∷ ts) end = do
+  days ← days_front 3 366 ts end
+  moved_end (Easter days (is_dash sign.kind) from) (later ts) end
+
+-- Behind `easter` as a last end a sign always begins an offset. As a first end a dash may be that of the range, but not before a
+-- weekday.
+abbrev pub is_easter_moved : Bool → List Token → Bool
+is_easter_moved is_first ts =
+    if is_first then begins_offset ts || begins is_plus ts || (begins is_dash ts && begins is_weekday (later ts))
+    else begins is_sign ts
+
+-- `easter +1 day`
+abbrev pub easter_end : Bool → List Token → ℕ → Result ReadEnd HoursFault
+easter_end is_first [] end = Err (misfit [] end)
+easter_end is_first (t ∷ ts) end =
+    if is_easter_moved is_first ts then easter_offset t.from ts end else Ok (record { end = Easter 0 false t.from; last = t })
+
+-- an end: `Oct 15`, `Mar Su[-1] +1 day` or `easter +1 day`
+abbrev pub dated_end : Bool → Option ℕ → List Token → ℕ → Result ReadEnd HoursFault
+dated_end is_first year ts end = do
   month ← month_front ts end
   month_end is_first year month (later ts) end
+
+abbrev pub end_front : Bool → Option ℕ → List ℕ → List Token → Result ReadEnd HoursFault
+end_front is_first year text ts =
+    if begins_easter text ts then easter_end is_first ts (length text) else dated_end is_first year ts (length text)
 
 -- ---- ranges
 
@@ -174,22 +199,35 @@ last_year_front None ts = Ok None
 last_year_front (Some year) ts = year_front ts
 
 -- what is behind the dash, behind the year and the first end of a range
-abbrev pub range_to : Option ℕ → WrittenEnd → List Token → ℕ → Result ReadRange HoursFault
-range_to year first ts end = do
+abbrev pub range_to : Option ℕ → WrittenEnd → List ℕ → List Token → Result ReadRange HoursFault
+range_to year first text ts = do
   last_year ← last_year_front year ts
-  last ← end_front false last_year (behind_read last_year ts) end
-  Ok (record { range = record { year = year; first = first; last_year = last_year; last = last.end }; last = last.last })
+  last ← end_front false last_year text (behind_read last_year ts)
+  Ok (record {
+    range = record { year = year; first = first; last_year = last_year; last = last.end };
+    is_one = false;
+    last = last.last;
+  })
 
--- what is behind the first end and the dash, where a range begins with these
-abbrev pub behind_dash : List Token → List Token
-behind_dash ts = later (behind_month (later ts))
+-- one day of a year
+abbrev pub one_day : Option ℕ → ReadEnd → ReadRange
+one_day year day = record {
+  range = record { year = year; first = day.end; last_year = year; last = day.end };
+  is_one = true;
+  last = day.last;
+}
 
--- a range that tokens begin
-abbrev pub range_front : List Token → ℕ → Result ReadRange HoursFault
-range_front ts end = do
+-- what is behind the year and the first end: a dash and what goes on, or nothing that belongs to them
+abbrev pub range_from : Option ℕ → ReadEnd → List ℕ → List Token → Result ReadRange HoursFault
+range_from year first text ts =
+    if begins is_dash ts then range_to year first.end text (later ts) else Ok (one_day year first)
+
+-- a range, or Easter of a year, that tokens begin
+abbrev pub range_front : List ℕ → List Token → Result ReadRange HoursFault
+range_front text ts = do
   year ← year_front ts
-  first ← end_front true year (behind_read year ts) end
-  range_to year first.end (behind_dash (behind_read year ts)) end
+  first ← end_front true year text (behind_read year ts)
+  range_from year first text (behind_end text (behind_read year ts))
 
 -- how many tokens it is
 abbrev pub year_tokens : Option ℕ → ℕ
@@ -200,7 +238,9 @@ abbrev pub end_tokens : WrittenEnd → ℕ
 end_tokens (Day month day) = 2
 end_tokens (Place place days before) =
     (if place.is_back then 6 else 5) + (if days == 0 then 0 else 3)
+end_tokens (Easter days before from) = if days == 0 then 1 else 4
 
-abbrev pub range_tokens : WrittenRange → ℕ
-range_tokens range =
-    year_tokens range.year + end_tokens range.first + 1 + year_tokens range.last_year + end_tokens range.last
+abbrev pub range_tokens : ReadRange → ℕ
+range_tokens read =
+    year_tokens read.range.year + end_tokens read.range.first
+    + (if read.is_one then 0 else 1 + year_tokens read.range.last_year + end_tokens read.range.last)

@@ -1,3 +1,2 @@
-pub mod SameDays
 pub mod OneFront
 pub mod FirstTokens

@@ -2,17 +2,18 @@
 
 ghost use Rattle.std.specs.Prelude.{◌≡◌, pos};
 ghost use Rattle.gtd_calendar.specs.Calendar.{month_length};
-ghost use Rattle.gtd_hours_moving.specs.Reading.{day_end, end_front, is_moved, length_in, month_end, moved_end, offset_by};
+ghost use Rattle.gtd_hours_moving.specs.Reading.{dated_end, day_end, is_moved, length_in, month_end, moved_end, offset_by};
 ghost use Rattle.gtd_hours_moving.specs.Reading.{offset_end, place_end, place_with, suits, written_place};
 
 use crate::begins::{at_number, begins_offset, behind_brackets};
 use crate::kinds::{begins_dash, begins_sign, is_dash, is_weekday, later};
+use crate::read::ReadEnd;
 use crate::reading::{
-    bracket_front, closing_front, day_front, days_front, fault_at, misfit, month_front, number_at,
-    place_front, weekday_of,
+    bracket_front, closing_front, day_front, fault_at, misfit, month_front, number_at,
+    place_days_front, place_front, weekday_of,
 };
-use crate::written::{ReadEnd, WrittenEnd, WrittenPlace};
 use gtd_hours_grammar::{FaultKind, HoursFault};
+use gtd_hours_ranges::{WrittenEnd, WrittenPlace};
 use gtd_hours_tokens::Token;
 
 // How many days a month has.
@@ -60,8 +61,8 @@ fn suits(place: WrittenPlace, days: u8, is_before: bool) -> bool
     !(place.is_back && is_before) || 7 * u16::from(place.number) + u16::from(days) <= 28
 }
 
-// `day` behind the number of an offset.
-fn moved_end(moved: WrittenEnd, tokens: &[Token], end: usize) -> Result<ReadEnd, HoursFault>
+/// `day` behind the number of an offset.
+pub fn moved_end(moved: WrittenEnd, tokens: &[Token], end: usize) -> Result<ReadEnd, HoursFault>
     ensures { result ≡ moved_end moved tokens.now end }
 {
     let day = day_front(tokens, end)?;
@@ -101,7 +102,7 @@ fn offset_end(place: WrittenPlace, tokens: &[Token], end: usize) -> Result<ReadE
     match tokens {
         [] => Err(misfit(tokens, end)),
         [sign, rest @ ..] => {
-            let days = days_front(rest, end)?;
+            let days = place_days_front(rest, end)?;
             offset_by(place, days, *sign, later(rest), end)
         }
     }
@@ -198,14 +199,14 @@ fn month_end(
     }
 }
 
-/// The first end of a range, or the last one. A year, if there is one, has been read before it.
-pub fn end_front(
+/// The first end of a range, or the last one, which is a date or a place. A year, if there is one, has been read before it.
+pub fn dated_end(
     is_first: bool,
     year: Option<u16>,
     tokens: &[Token],
     end: usize,
 ) -> Result<ReadEnd, HoursFault>
-    ensures { result ≡ end_front is_first year tokens.now end }
+    ensures { result ≡ dated_end is_first year tokens.now end }
 {
     let month = month_front(tokens, end)?;
     month_end(is_first, year, month, later(tokens), end)

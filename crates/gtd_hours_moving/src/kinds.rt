@@ -1,8 +1,8 @@
 //! What tokens are, and with which ones tokens begin.
 
 ghost use Rattle.std.specs.Prelude.{◌≡◌};
-ghost use Rattle.gtd_hours_moving.specs.Kinds.{begins, is_bracket, is_closing, is_dash, is_day, is_month, is_number, is_sign};
-ghost use Rattle.gtd_hours_moving.specs.Kinds.{is_weekday, is_year, later};
+ghost use Rattle.gtd_hours_moving.specs.Kinds.{begins, is_bracket, is_closing, is_dash, is_day, is_month, is_number, is_plus};
+ghost use Rattle.gtd_hours_moving.specs.Kinds.{is_sign, is_weekday, is_year, later};
 
 use gtd_hours_tokens::{Token, TokenKind};
 
@@ -82,6 +82,16 @@ fn is_year(kind: TokenKind) -> bool
 {
     match kind {
         TokenKind::Number { digits, .. } => digits == 4,
+        _ => false,
+    }
+}
+
+// Whether it is a plus.
+fn is_plus(kind: TokenKind) -> bool
+    ensures { result ≡ is_plus kind }
+{
+    match kind {
+        TokenKind::Plus => true,
         _ => false,
     }
 }
@@ -174,6 +184,16 @@ pub fn begins_year(tokens: &[Token]) -> bool
     match tokens.first() {
         None => false,
         Some(token) => is_year(token.kind),
+    }
+}
+
+/// Whether the first token is a plus.
+pub fn begins_plus(tokens: &[Token]) -> bool
+    ensures { result ≡ begins is_plus tokens.now }
+{
+    match tokens.first() {
+        None => false,
+        Some(token) => is_plus(token.kind),
     }
 }
 

@@ -157,9 +157,9 @@ pub fn place_front(tokens: &[Token], end: usize) -> Result<u8, HoursFault>
     }
 }
 
-/// The days of an offset, 1 to 27.
-pub fn days_front(tokens: &[Token], end: usize) -> Result<u8, HoursFault>
-    ensures { result ≡ days_front tokens.now end }
+/// The days of the offset of a place, 1 to 27.
+pub fn place_days_front(tokens: &[Token], end: usize) -> Result<u8, HoursFault>
+    ensures { result ≡ days_front 2 27 tokens.now end }
 {
     match tokens {
         [token, ..] => {
@@ -167,6 +167,41 @@ pub fn days_front(tokens: &[Token], end: usize) -> Result<u8, HoursFault>
                 Err(fault_at(FaultKind::Unsupported, token.from))
             } else {
                 number_at(2, 27, token.from, token.kind)
+            }
+        }
+        [] => Err(misfit(tokens, end)),
+    }
+}
+
+// A number of one to three digits, from 1 to 366.
+fn days_at(from: usize, kind: TokenKind) -> Result<u16, HoursFault>
+    ensures { result ≡ number_at 3 366 from kind }
+{
+    match kind {
+        TokenKind::Number {
+            value,
+            digits: count,
+        } => {
+            if count <= 3 && 1 <= value && value <= 366 {
+                Ok(value)
+            } else {
+                Err(fault_at(FaultKind::Range, from))
+            }
+        }
+        _ => Err(fault_at(misfit_kind(kind), from)),
+    }
+}
+
+/// The days of the offset of Easter, 1 to 366.
+pub fn easter_days_front(tokens: &[Token], end: usize) -> Result<u16, HoursFault>
+    ensures { result ≡ days_front 3 366 tokens.now end }
+{
+    match tokens {
+        [token, ..] => {
+            if is_weekday(token.kind) {
+                Err(fault_at(FaultKind::Unsupported, token.from))
+            } else {
+                days_at(token.from, token.kind)
             }
         }
         [] => Err(misfit(tokens, end)),

@@ -5,8 +5,8 @@ use Rattle.std.proofs.lemmas.Bool.{cases_order}
 use Rattle.gtd_hours_tokens.specs.Lexing.{BeginsNoToken, IsTokenFault, Reads}
 use Rattle.gtd_hours_tokens.specs.facts.TokenForms.{is_language, no_space}
 use Rattle.gtd_hours_tokens.specs.declared.token.Token.{Token}
-use Rattle.gtd_hours_holiday_rules.specs.Comments.{IsBadPlace, are_whole, is_whole}
-use Rattle.gtd_hours_holiday_rules.proofs.TokenLemmas.{left_true, right_true}
+use Rattle.gtd_hours_items.specs.Comments.{IsBadPlace, are_whole, is_whole}
+use Rattle.gtd_hours_items.proofs.TokenLemmas.{left_true, right_true}
 
 not_both : (b : Bool) → b ≡ true → b ≡ false → ⊥
 not_both b e f = cc

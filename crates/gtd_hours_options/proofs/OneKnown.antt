@@ -4,7 +4,7 @@ use Rattle.gtd_hours.specs.declared.hours.Hours.{Hours}
 use Rattle.gtd_hours_moves.specs.Terms.{Piece}
 use Rattle.gtd_hours_grammar.specs.Faults.{IsFirstFault, IsHoursText}
 use Rattle.gtd_hours_grammar.specs.declared.fault.HoursFault.{HoursFault}
-use Rattle.gtd_hours_holiday_rules.specs.Comments.{IsBadPlace}
+use Rattle.gtd_hours_items.specs.Comments.{IsBadPlace}
 use Rattle.gtd_hours_holiday_rules.specs.Reading.{IsHolidayText}
 use Rattle.gtd_hours_holiday_rules.specs.Rules.{Said, said_by}
 use Rattle.gtd_hours_holiday_rules.specs.Told.{told_fault}

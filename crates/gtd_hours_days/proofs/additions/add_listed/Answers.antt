@@ -1,4 +1,4 @@
--- Each form of selector adds its own days: public holidays or Easter with their offset, school holidays without.
+-- Each form of selector adds its own days: public holidays with their offset, school holidays without, and days of Easter.
 use Rattle.gtd_hours_days.proofs.additions.add_listed.Goals as goal
 
 pub returns-in-Public-clause-added : goal.returns-in-Public-clause-added
@@ -8,4 +8,4 @@ pub returns-in-School-clause-added : goal.returns-in-School-clause-added
 returns-in-School-clause-added c = rw c.in-School.is c.add_school.ensures.added
 
 pub returns-in-Easter-clause-added : goal.returns-in-Easter-clause-added
-returns-in-Easter-clause-added c = rw c.in-Easter.is c.add_easter.ensures.added
+returns-in-Easter-clause-added c = rw c.in-Easter.is c.add_easter_days.ensures.added

@@ -1,0 +1,3 @@
+-- Lemmas on the tokens and the items that have been read.
+pub mod TokenLemmas
+pub mod ItemsLeft
