@@ -7,6 +7,7 @@ ghost use Rattle.gtd_hours_warnings.specs.Marks.{IsKnownYearsWarning, IsNotKnown
 ghost use Rattle.gtd_hours_warnings.specs.Marks.{is_unquoted, remark_at};
 
 use crate::warnings::{Warning, WarningKind, add_hides, form_warnings, put_in};
+use crate::whole_days::add_whole_days;
 use gtd_hours_holidays::KnownYears;
 use gtd_hours_known::KnownHours;
 use gtd_hours_loose::{StrictForm, strict_place};
@@ -193,7 +194,7 @@ fn add_years_if(
 
 /// The warnings of a text from which these hours are read, in the order of their places: where it is written loosely; its
 /// comments on open rules without a word that says so, each with that word; its fallback rules that are unknown; the rules that
-/// hide hours of an earlier one, each with the hours that stay if a comma stands before it; and at its first holiday the years in
+/// say days alone, and behind which a comma begins another rule; the rules that hide hours of an earlier one, each with the hours that stay if a comma stands before it; and at its first holiday the years in
 /// which holidays are known, if they are given. `AllocError` is answered only if memory was refused.
 pub fn warnings_with(
     alloc: Global,
@@ -207,6 +208,7 @@ pub fn warnings_with(
     let remarks = read.remarks.as_slice();
     add_remarks(alloc, &mut warnings, text, &read.form, remarks)?;
     add_not_known(alloc, &mut warnings, read.unknowns.as_slice())?;
+    add_whole_days(alloc, &mut warnings, text, &read.form)?;
     add_hides(alloc, &mut warnings, text, &read.hours, &read.form)?;
     add_years_if(alloc, &mut warnings, read.first_holiday, years)?;
     Ok(warnings)
