@@ -415,6 +415,14 @@ status=$?
 : > err
 expect 'a full output for the faults of hours' 1 '' ''
 
+# Rules that hold all day, and hidden hours beside holidays.
+run hours 'Mo, Dec 24 off'
+expect 'a rule of days alone' 0 '[[(t2h0m0){d1}]-[(M12d24h0m0){d1}]]' 'gtdesk: TEXT: warning WholeDay at 0: open'
+printf 'first,last,kind,name\n2026-01-01,2026-12-31,PH-covered,\n2026-12-25,,PH,Christmas\n' > days.csv
+run hours --holidays days.csv --years 2026 'Mo 08:00-12:00; Mo 13:00-17:00; PH off'
+expect 'hidden hours beside holidays' 0 '[[[[[(t2h0m0){d1}]*[(h8m0){m240}]]-[(t2h0m0){d1}]]+[[(t2h0m0){d1}]*[(h13m0){m240}]]]-[(y2026M12d25h0m0){d1}]]' \
+    $'gtdesk: TEXT: warning Hides at 16: Mo 08:00-12:00, Mo 13:00-17:00; PH off\ngtdesk: TEXT: warning KnownYears at 32: 2026-2026'
+
 # Tags with hours that need a table of holidays.
 printf 'element,key,value\n7,access:conditional,no @ (10:00-12:00; PH off)\n' > tags.csv
 printf 'kind,name,means\nmode,access,0\n' > means.csv

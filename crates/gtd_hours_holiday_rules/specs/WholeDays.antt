@@ -1,6 +1,6 @@
 -- The rules that say days alone, and behind which a comma begins another rule: they hold all day, although who wrote them may
 -- have meant the times or the word of the rule behind the comma.
-use Rattle.std.specs.Prelude.{ℕ, Bool, true, false, List, [], ◌∷◌, ◌++◌, Option, Some, None, if◌then◌else◌}
+use Rattle.std.specs.Prelude.{ℕ, ◌==◌, Bool, true, false, List, [], ◌∷◌, ◌++◌, Option, Some, None}
 use Rattle.gtd_hours.specs.declared.hours.Link.{Link}
 use Rattle.gtd_hours.specs.declared.hours.Link.TheVariants as link
 use Rattle.gtd_hours_items.specs.declared.items.Item.{Item}
@@ -13,15 +13,19 @@ use Rattle.gtd_hours_holiday_rules.specs.declared.parts.Part.{Part}
 use Rattle.gtd_hours_holiday_rules.specs.declared.whole_days.SoFar.{SoFar}
 use Rattle.gtd_hours_holiday_rules.specs.declared.whole_days.SoFar.TheVariants as so_far
 
--- A token that says on which days a rule holds. A slash stands in `24/7`, too.
+-- A token that says on which days a rule holds.
 abbrev pub is_of_days : TokenKind → Bool
 is_of_days kind.Open = false
 is_of_days kind.Closed = false
 is_of_days kind.Unsupported = false
 is_of_days (kind.Time hour minute) = false
 is_of_days kind.Semicolon = false
-is_of_days kind.Slash = false
 is_of_days k = true
+
+-- A number begins a rule of days if it is a year, of four digits: that of `24/7` has two.
+abbrev pub begins_days : TokenKind → Bool
+begins_days (kind.Number value digits) = digits == 4
+begins_days k = is_of_days k
 
 abbrev pub says_days : What → Bool
 says_days (what.Token k) = is_of_days k
@@ -29,6 +33,10 @@ says_days (what.Holiday h) = true
 says_days (what.Dates days) = true
 says_days (what.Easter days place) = true
 says_days w = false
+
+abbrev pub says_first_days : What → Bool
+says_first_days (what.Token k) = begins_days k
+says_first_days w = says_days w
 
 -- ---- a rule, item by item
 
@@ -38,7 +46,7 @@ days_from true place = so_far.Days place
 days_from false place = so_far.More
 
 abbrev pub with_item : SoFar → Item → SoFar
-with_item so_far.Nothing item = days_from (says_days item.what) item.from
+with_item so_far.Nothing item = days_from (says_first_days item.what) item.from
 with_item (so_far.Days place) item = days_from (says_days item.what) place
 with_item so_far.More item = so_far.More
 

@@ -1,8 +1,9 @@
 //! The rules that say days alone, and behind which a comma begins another rule.
 
 ghost use Rattle.std.specs.Prelude.{◌≡◌, ◌++◌, IfOk, OnOk};
-ghost use Rattle.gtd_hours_holiday_rules.specs.WholeDays.{after_part, days_from, is_of_days, list_of, place_before};
-ghost use Rattle.gtd_hours_holiday_rules.specs.WholeDays.{place_behind, place_of, says_days, whole_days_of, with_item};
+ghost use Rattle.gtd_hours_holiday_rules.specs.WholeDays.{after_part, begins_days, days_from, is_of_days, list_of};
+ghost use Rattle.gtd_hours_holiday_rules.specs.WholeDays.{place_before, place_behind, place_of, says_days, says_first_days};
+ghost use Rattle.gtd_hours_holiday_rules.specs.WholeDays.{whole_days_of, with_item};
 
 use crate::parts::Part;
 use crate::rules::link_behind;
@@ -35,8 +36,17 @@ fn is_of_days(kind: TokenKind) -> bool
         TokenKind::Unsupported => false,
         TokenKind::Time { .. } => false,
         TokenKind::Semicolon => false,
-        TokenKind::Slash => false,
         _ => true,
+    }
+}
+
+// A number begins a rule of days if it is a year: that of `24/7` has two digits.
+fn begins_days(kind: TokenKind) -> bool
+    ensures { result ≡ begins_days kind }
+{
+    match kind {
+        TokenKind::Number { digits, .. } => digits == 4,
+        _ => is_of_days(kind),
     }
 }
 
@@ -49,6 +59,15 @@ fn says_days(what: What) -> bool
         What::Dates(_) => true,
         What::Easter { .. } => true,
         _ => false,
+    }
+}
+
+fn says_first_days(what: What) -> bool
+    ensures { result ≡ says_first_days what }
+{
+    match what {
+        What::Token(kind) => begins_days(kind),
+        _ => says_days(what),
     }
 }
 
@@ -66,7 +85,7 @@ fn with_item(so_far: SoFar, item: Item) -> SoFar
     ensures { result ≡ with_item so_far item }
 {
     match so_far {
-        SoFar::Nothing => days_from(says_days(item.what), item.from),
+        SoFar::Nothing => days_from(says_first_days(item.what), item.from),
         SoFar::Days { place } => days_from(says_days(item.what), place),
         SoFar::More => SoFar::More,
     }
