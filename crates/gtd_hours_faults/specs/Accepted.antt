@@ -51,16 +51,16 @@ pub data Told : Type 0 where
 
 abbrev pub told_of : Expectation → Told
 told_of said.Nothing = Told.nothing
-told_of (said.Words words) = Told.words words.now
+told_of (said.Words text) = Told.words text.now
 told_of (said.Fewer needed) = Told.fewer needed
 
 -- words, if there are any
 abbrev pub told_in : Option (List ℕ) → Told
 told_in None = Told.nothing
-told_in (Some words) = Told.words words
+told_in (Some text) = Told.words text
 
 abbrev pub told_line : Told → List ℕ
 told_line Told.nothing = []
-told_line (Told.words words) = codes "    expected: " ++ (words ++ codes "\n")
+told_line (Told.words text) = codes "    expected: " ++ (text ++ codes "\n")
 told_line (Told.fewer needed) =
     codes "    expected: hours that take at most 128 basic domains; these take " ++ (decimal needed ++ codes "\n")
