@@ -8,7 +8,7 @@ use Rattle.std.proofs.lemmas.List.{with_items_is}
 use Rattle.csv.specs.Reading.{default_config, records, strip_bom}
 use Rattle.gtd_core.specs.Limits.{most_basic_domains, most_file_bytes, most_rows}
 use Rattle.gtd_core.specs.facts.Deciding.{Decided}
-use Rattle.gtd_hours.specs.Cost.{hours_cost}
+use Rattle.gtd_hours.specs.Cost.{counted, hours_cost}
 use Rattle.gtd_hours_known.specs.declared.known.KnownHours.{KnownHours}
 use Rattle.gtd_hours_text.specs.Room.{HasVectors}
 use Rattle.gtd_records.specs.Columns.{Fields, IsOrdered, closed_of, number_of, vehicles_of}

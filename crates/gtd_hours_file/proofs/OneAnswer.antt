@@ -7,6 +7,7 @@ use Rattle.csv.specs.Reading.{default_config, records, strip_bom}
 use Rattle.gtd_core.specs.Limits.{most_rows}
 use Rattle.gtd_core.specs.Parts.{domain_tree}
 use Rattle.gtd_core.specs.Trees.{Tree}
+use Rattle.gtd_hours.specs.Cost.{counted}
 use Rattle.gtd_hours_options.specs.Readings.{AreReadInOneWay, HowRead}
 use Rattle.gtd_hours_options.specs.declared.fault.OptionsFault.{OptionsFault}
 use Rattle.gtd_records.specs.Closing.{HoldsAt, Restriction}

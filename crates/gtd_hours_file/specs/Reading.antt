@@ -5,6 +5,7 @@ use Rattle.gtd_hours_options.specs.declared.fault.OptionsReadFault.TheVariants a
 use Rattle.gtd_records.specs.Columns.{Fields}
 use Rattle.gtd_hours_options.specs.Readings.{HowRead}
 use Rattle.gtd_hours_file.specs.HoursFile.{IsHoursColumn, IsHoursFault, IsRow}
+use Rattle.gtd_hours_file.specs.declared.fault.HoursFileFault.TheVariants as fault
 use Rattle.gtd_hours_file.specs.declared.row.HoursRow.{HoursRow}
 use Rattle.gtd_hours_file.specs.declared.row.RowHours.{RowHours}
 use Rattle.gtd_hours_file.specs.declared.row.RowStop.{RowStop}

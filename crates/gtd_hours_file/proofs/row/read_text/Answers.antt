@@ -9,8 +9,8 @@ use Rattle.gtd_hours_file.specs.declared.fault.HoursFileFault.TheVariants as fau
 use Rattle.gtd_hours_file.proofs.RowFacts.{above, below, is_kept, unread_stops}
 use Rattle.gtd_hours_file.proofs.row.read_text.Goals as goal
 
-pub returns-then-cost_of-from-clause-stop : goal.returns-then-cost_of-from-clause-stop
-returns-then-cost_of-from-clause-stop c =
+pub returns-then-needed-from-clause-stop : goal.returns-then-needed-from-clause-stop
+returns-then-needed-from-clause-stop c =
     let limit = c.from.ensures in
     let more : 128 < c.cost_of-needed.result = grind (arith, nat_tests) in
     IsHoursFault.of_many c.in-Ok.read c.in-Ok.ensures.hours
