@@ -11,7 +11,7 @@ use Rattle.gtd_migrate.specs.Migrated.{domain_text, migrated}
 use Rattle.gtd_records.specs.Closing.{Restriction}
 use Rattle.gtd_records.specs.Columns.{Fields}
 use Rattle.gtd_records.specs.ComputedFile.{AreRecords, AreSoundRows}
-use Rattle.gtd_records.specs.ComputedRow.{IsDomainColumn, IsReading}
+use Rattle.gtd_records.specs.ComputedRow.{IsDomainColumn}
 use Rattle.gtd_records.specs.File.{IsFile}
 use Rattle.gtd_records.specs.ComputedRow as record_file
 use Rattle.gtd_records.specs.declared.vehicles.Version.{Version}

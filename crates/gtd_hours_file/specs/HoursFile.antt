@@ -5,10 +5,8 @@ use Rattle.csv.specs.Reading.{default_config, records, strip_bom}
 use Rattle.gtd_core.specs.Limits.{most_basic_domains, most_file_bytes, most_rows}
 use Rattle.gtd_hours.specs.Cost.{counted, hours_cost}
 use Rattle.gtd_hours_known.specs.declared.known.KnownHours.{KnownHours}
-use Rattle.gtd_hours_loose.specs.declared.manner.Manner.{Manner}
 use Rattle.gtd_hours_options.specs.Readings.{HasFault, HowRead, Reads}
 use Rattle.gtd_hours_options.specs.declared.fault.OptionsFault.{OptionsFault}
-use Rattle.gtd_hours_options.specs.declared.options.Options.{Options}
 use Rattle.gtd_records.specs.Columns.{Fields, IsOrdered, closed_of, number_of, vehicles_of}
 use Rattle.gtd_records.specs.declared.direction.Closed.{Closed}
 use Rattle.gtd_records.specs.declared.vehicles.Vehicles.{Vehicles}

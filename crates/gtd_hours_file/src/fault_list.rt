@@ -1,6 +1,6 @@
 //! The list of all faults of a file of hours.
 
-ghost use Rattle.std.specs.Prelude.{◌≡◌, ◌++◌, ℕ, IfOk, IfSome, OnOk, option_map, string_bytes};
+ghost use Rattle.std.specs.Prelude.{◌≡◌, ◌++◌, ℕ, IfOk, IfSome, OnOk, string_bytes};
 ghost use Rattle.gtd_faults.specs.Listing.{line_text};
 ghost use Rattle.gtd_faults.specs.Standing.{StandsAt};
 ghost use Rattle.gtd_hours_file.specs.Listing as list;

@@ -1,6 +1,6 @@
 //! The words of a fault.
 
-ghost use Rattle.std.specs.Prelude.{◌≡◌, Some, option_map};
+ghost use Rattle.std.specs.Prelude.{◌≡◌, Some};
 ghost use Rattle.gtd_faults.specs.Expected as of_records;
 ghost use Rattle.gtd_hours_faults.specs.Accepted.{told_in, told_of};
 ghost use Rattle.gtd_hours_file.specs.Listing as spec;

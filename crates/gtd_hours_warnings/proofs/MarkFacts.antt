@@ -1,6 +1,6 @@
 -- What remarks, rules that are not known and years add to the warnings of a text.
-use Rattle.std.proofs.Common.{◌≡◌, ◌∙◌, ◌+◌, ◌≤◌, sym, ap, subst, arith, ℕ, suc, List, [], ◌∷◌, length, take}
-use Rattle.std.specs.Prelude.{OnOk, Option, Some, None, Result, Ok, Err}
+use Rattle.std.proofs.Common.{◌≡◌, ◌+◌, ◌≤◌, sym, ap, subst, arith, ℕ, suc, List, ◌∷◌, length, take}
+use Rattle.std.specs.Prelude.{OnOk, Option, Some, Result, Ok, Err}
 use Rattle.std.specs.List.{prefix_len}
 use Rattle.std.proofs.lemmas.List.{take_all}
 use Rattle.gtd_hours_holidays.specs.declared.known_years.KnownYears.{KnownYears}

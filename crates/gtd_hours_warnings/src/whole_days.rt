@@ -1,6 +1,6 @@
 //! The warnings of rules that say days alone, and behind which a comma begins another rule.
 
-ghost use Rattle.std.specs.Prelude.{◌≡◌, IfOk, OnOk};
+ghost use Rattle.std.specs.Prelude.{IfOk, OnOk};
 ghost use Rattle.gtd_hours_warnings.specs.Marks.{AddsWholeDays, AddsWholeDaysAt, IsWholeDayWarning};
 ghost use Rattle.gtd_hours_warnings.specs.Warnings.{place_in};
 
