@@ -50,5 +50,6 @@ returns-in-Err-clause-fault c =
 pub returns-then-rest-bytes-lt1-clause-parts : goal.returns-then-rest-bytes-lt1-clause-parts
 returns-then-rest-bytes-lt1-clause-parts c =
     goes_last c.args.subject (how_read c.args.reading) c.args.means.now.rows.items 0 c.args.text.now c.loop-part.at
-    c.part_length-bytes.result c.loop-part.rest.now c.part_length-bytes.ensures.bytes c.loop-part.parts.items c.push_part.new.parts.items c.in-Ok.part
+    c.part_length-bytes.result c.loop-part.rest.now c.part_length-bytes.ensures.bytes c.loop-part.parts.items
+    c.push_part.new.parts.items c.in-Ok.part
     c.in_ok-push_part.ensures (omega arith) c.in-Ok.ensures.part c.loop-part.invariant.goes

@@ -40,5 +40,6 @@ returns-in-Err-clause-fault c =
 pub returns-then-rest-bytes-lt3-clause-terms : goal.returns-then-rest-bytes-lt3-clause-terms
 returns-then-rest-bytes-lt3-clause-terms c =
     goes_last (how_read c.args.reading) c.args.means.now.rows.items c.args.place c.args.text.now c.loop-term.at
-    c.term_length-bytes.result c.loop-term.rest.now c.term_length-bytes.ensures.bytes c.loop-term.terms.items c.push_term.new.terms.items c.in-Ok.term
+    c.term_length-bytes.result c.loop-term.rest.now c.term_length-bytes.ensures.bytes c.loop-term.terms.items
+    c.push_term.new.terms.items c.in-Ok.term
     c.in_ok-push_term.ensures (omega arith) c.in-Ok.ensures c.loop-term.invariant.goes
