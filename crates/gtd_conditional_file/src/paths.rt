@@ -17,5 +17,5 @@ pub struct ConditionsReading<'a> {
     /// Their paths.
     pub paths: Paths<'a>,
     /// How hours in values are read.
-    pub reading: HoursReading<'a>,
+    pub hours: HoursReading<'a>,
 }

@@ -79,16 +79,16 @@ fn put_tags<O: Output>(
 ) -> Result<Converted, Unconverted>
     requires writable { O.failure_count output.old < u64.MAX }
     ensures stands { (table : List ℕ) → IsTable table (Ok means.now.rows.items)
-        → HasConverted (how_read reading.entry.reading) (spec.paths_of reading.entry.paths) (Some table) (Some bytes.now)
+        → HasConverted (how_read reading.entry.hours) (spec.paths_of reading.entry.paths) (Some table) (Some bytes.now)
         (O.taken output.old) (O.taken output.new) (lines_of result) }
     ensures warned { (table : List ℕ) → IsTable table (Ok means.now.rows.items)
-        → IsWarned (how_read reading.entry.reading) (spec.paths_of reading.entry.paths) (Some table) (Some bytes.now) result }
+        → IsWarned (how_read reading.entry.hours) (spec.paths_of reading.entry.paths) (Some table) (Some bytes.now) result }
     ensures cause { IfErr result spec.IsPutStop }
     ensures ended { OnOk result (IsTrue (O.is_ended output.new)) }
     ensures failures { O.failure_count output.new
         ≡ spec.failures_after_putting result (O.failure_count output.old) }
 {
-    let Ok(file) = read_elements(alloc, means, reading.reading, reading.paths.tags, bytes) else {
+    let Ok(file) = read_elements(alloc, means, reading.hours, reading.paths.tags, bytes) else {
         return Err(Unconverted::NoMemory { written: 0 });
     };
     if !file.faults.is_empty() {
@@ -109,10 +109,10 @@ fn run_tags<I: Input, O: Output>(
     requires readable { I.failure_count tags.old < u64.MAX }
     requires writable { O.failure_count output.old < u64.MAX }
     ensures stands { (table : List ℕ) → IsTable table (Ok means.now.rows.items)
-        → HasConverted (how_read reading.entry.reading) (spec.paths_of reading.entry.paths) (Some table) (I.to_come tags.old)
+        → HasConverted (how_read reading.entry.hours) (spec.paths_of reading.entry.paths) (Some table) (I.to_come tags.old)
         (O.taken output.old) (O.taken output.new) (lines_of result) }
     ensures warned { (table : List ℕ) → IsTable table (Ok means.now.rows.items)
-        → IsWarned (how_read reading.entry.reading) (spec.paths_of reading.entry.paths) (Some table) (I.to_come tags.old) result }
+        → IsWarned (how_read reading.entry.hours) (spec.paths_of reading.entry.paths) (Some table) (I.to_come tags.old) result }
     ensures cause { IfErr result spec.IsTagsStop }
     ensures ended { OnOk result (IsTrue (O.is_ended output.new)) }
     ensures endless { IsErrOf result Unconverted.TagsEndless → IsTrue (I.may_fall_silent tags.old) }
@@ -145,9 +145,9 @@ fn run_with<I: Input, O: Output>(
 ) -> Result<Converted, Unconverted>
     requires readable { I.failure_count tags.old < u64.MAX }
     requires writable { O.failure_count output.old < u64.MAX }
-    ensures stands { HasConverted (how_read reading.entry.reading) (spec.paths_of reading.entry.paths) (Some bytes.now)
+    ensures stands { HasConverted (how_read reading.entry.hours) (spec.paths_of reading.entry.paths) (Some bytes.now)
         (I.to_come tags.old) (O.taken output.old) (O.taken output.new) (lines_of result) }
-    ensures warned { IsWarned (how_read reading.entry.reading) (spec.paths_of reading.entry.paths) (Some bytes.now)
+    ensures warned { IsWarned (how_read reading.entry.hours) (spec.paths_of reading.entry.paths) (Some bytes.now)
         (I.to_come tags.old) result }
     ensures cause { IfErr result spec.IsTagsStop }
     ensures ended { OnOk result (IsTrue (O.is_ended output.new)) }
@@ -194,10 +194,10 @@ pub fn run_conditions<I: Input, J: Input, O: Output>(
     // What each answer means. The number of lines: the output took the record file of the rows that the two files stand for.
     // `Faults`: the text lists all faults of the table of means, or, if it has none, of the file of tags, and nothing was put.
     // `WriteFault`, or `NoMemory` after both files were read: the output took a first part of the lines of the first rows.
-    ensures stands { HasConverted (how_read reading.entry.reading) (spec.paths_of reading.entry.paths) (J.to_come means.old)
+    ensures stands { HasConverted (how_read reading.entry.hours) (spec.paths_of reading.entry.paths) (J.to_come means.old)
         (I.to_come tags.old) (O.taken output.old) (O.taken output.new) (lines_of result) }
     // The warnings are those of the hours in the values, down to the last byte, each with the line on which the row begins.
-    ensures warned { IsWarned (how_read reading.entry.reading) (spec.paths_of reading.entry.paths) (J.to_come means.old)
+    ensures warned { IsWarned (how_read reading.entry.hours) (spec.paths_of reading.entry.paths) (J.to_come means.old)
         (I.to_come tags.old) result }
     // An output that took the whole text was then ended, last of all.
     ensures ended { OnOk result (IsTrue (O.is_ended output.new)) }

@@ -11,7 +11,7 @@ use Rattle.gtd_conditional_file.proofs.run.put_tags.Goals as goal
 
 pub returns-clause-stands : goal.returns-clause-stands
 returns-clause-stands g c = λ table read.
-    let how = (how_read c.args.reading.reading) in
+    let how = (how_read c.args.reading.hours) in
     let means = c.args.means.now.rows.items in
     let bytes = c.args.bytes.now in
     let none : c.in-Ok.file.faults.items ≡ [] = grind (arith, common_steps) in
@@ -26,7 +26,7 @@ returns-clause-stands g c = λ table read.
 
 pub returns-clause-warned : goal.returns-clause-warned
 returns-clause-warned g c = λ table read.
-    let how = (how_read c.args.reading.reading) in
+    let how = (how_read c.args.reading.hours) in
     let none : c.in-Ok.file.faults.items ≡ [] = grind (arith, common_steps) in
     warned_with how (paths_of c.args.reading.paths) table c.args.bytes.now c.in-Ok.file.warnings.items
     c.with_warnings.result (search rules)

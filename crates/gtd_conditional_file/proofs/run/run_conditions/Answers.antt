@@ -7,6 +7,6 @@ use Rattle.gtd_conditional_file.proofs.run.run_conditions.Goals as goal
 
 pub returns-in-Err-TooLarge-clause-stands : goal.returns-in-Err-TooLarge-clause-stands
 returns-in-Err-TooLarge-clause-stands g c =
-    large_means (how_read c.args.reading.reading) (paths_of c.args.reading.paths) (g.J.Input.to_come c.args.means.now)
+    large_means (how_read c.args.reading.hours) (paths_of c.args.reading.paths) (g.J.Input.to_come c.args.means.now)
     (g.I.Input.to_come c.args.tags.now) (g.O.Output.taken c.args.output.now) c.means_refusal.result (search rules)
     c.means_refusal.ensures
