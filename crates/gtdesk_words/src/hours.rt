@@ -10,6 +10,8 @@ use crate::refusal::NoDomain;
 use gtd_core::Domain;
 use gtd_hours::Hours;
 use gtd_hours_domain::{TranslationFault, domain_of};
+use gtd_hours_known::KnownFault;
+use gtd_hours_options::OptionsFault;
 use gtd_hours_text::{HoursTextFault, read_hours};
 use std::alloc::Global;
 
@@ -20,7 +22,9 @@ fn hours_in(alloc: Global, text: &str) -> Result<Hours, Option<NoDomain>>
 {
     match read_hours(alloc, text.as_bytes()) {
         Ok(hours) => Ok(hours),
-        Err(HoursTextFault::Fault(fault)) => Err(Some(NoDomain::Fault(fault))),
+        Err(HoursTextFault::Fault(fault)) => {
+            Err(Some(NoDomain::Fault(OptionsFault::Known(KnownFault::Hours(fault)))))
+        }
         Err(HoursTextFault::NoMemory) => Err(None),
     }
 }

@@ -24,8 +24,8 @@ use Rattle.gtd_hours_options.specs.Told.{bad_token, placed_fault, told}
 use Rattle.gtd_hours_options.specs.declared.fault.OptionsFault.{OptionsFault}
 use Rattle.gtd_hours_options.specs.declared.fault.OptionsFault.TheVariants as wrong
 use Rattle.gtd_hours_options.specs.declared.options.Options.{Options}
-use Rattle.gtd_hours_file.proofs.OneRules.{not_both, the_one}
-use Rattle.gtd_hours_file.proofs.Alike.{AreAllAlike, hours_of}
+use Rattle.gtd_hours_options.proofs.OneRules.{not_both, the_one}
+use Rattle.gtd_hours_options.proofs.Alike.{AreAllAlike, hours_of}
 
 -- ---- a text with times
 

@@ -1,9 +1,9 @@
 -- A table has one list of days for holidays, and all else is computed from the text.
-use Rattle.gtd_hours_file.proofs.BadPlaces.{one_bad_place}
-use Rattle.gtd_hours_file.proofs.OneKnown as known
-use Rattle.gtd_hours_file.proofs.OneOptions as timed
-use Rattle.gtd_hours_file.proofs.OneWay as proof
-use Rattle.gtd_hours_file.proofs.laws.one_way.Goals as goal
+use Rattle.gtd_hours_options.proofs.BadPlaces.{one_bad_place}
+use Rattle.gtd_hours_options.proofs.OneKnown as known
+use Rattle.gtd_hours_options.proofs.OneOptions as timed
+use Rattle.gtd_hours_options.proofs.OneWay as proof
+use Rattle.gtd_hours_options.proofs.laws.one_way.Goals as goal
 
 pub returns : goal.returns
 returns c =

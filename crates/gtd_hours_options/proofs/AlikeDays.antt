@@ -18,7 +18,7 @@ use Rattle.gtd_hours_known.proofs.ApartFacts.{one_list}
 use Rattle.gtd_hours_known.proofs.MatchFacts.{same_matches}
 use Rattle.gtd_hours_known.proofs.SaidDays.{made_of, match_of_same, same_match, same_spans, spans_of_same}
 use Rattle.gtd_hours_text.specs.facts.SameRules.{SameRule, SameRules}
-use Rattle.gtd_hours_file.proofs.Alike.{AreAlike, AreAllAlike}
+use Rattle.gtd_hours_options.proofs.Alike.{AreAlike, AreAllAlike}
 
 -- ---- what days cost
 

@@ -21,10 +21,10 @@ use Rattle.gtd_hours_known.specs.declared.known.Known.{Known}
 use Rattle.gtd_hours_known.specs.declared.known.KnownHours.{KnownHours}
 use Rattle.gtd_hours_loose.specs.Reading.{IsStrict}
 use Rattle.gtd_hours_text.specs.facts.OneMeaning.{same_rules}
-use Rattle.gtd_hours_file.proofs.Alike.{AreAllAlike}
-use Rattle.gtd_hours_file.proofs.AlikeDays.{alike_same}
-use Rattle.gtd_hours_file.proofs.OneRules.{covered_apart, first_need_same, not_both, one_head, one_tail, rules_alike}
-use Rattle.gtd_hours_file.proofs.OneRules.{same_uncovered, the_one}
+use Rattle.gtd_hours_options.proofs.Alike.{AreAllAlike}
+use Rattle.gtd_hours_options.proofs.AlikeDays.{alike_same}
+use Rattle.gtd_hours_options.proofs.OneRules.{covered_apart, first_need_same, not_both, one_head, one_tail, rules_alike}
+use Rattle.gtd_hours_options.proofs.OneRules.{same_uncovered, the_one}
 
 own_text : (x y : HolidayRule) (xs ys : List HolidayRule) → map said_by (x ∷ xs) ≡ map said_by (y ∷ ys)
     → x.text.items ≡ y.text.items

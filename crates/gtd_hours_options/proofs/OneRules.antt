@@ -26,8 +26,8 @@ use Rattle.gtd_hours_known.specs.declared.known.Known.{Known}
 use Rattle.gtd_hours_dated.specs.Dated.{IsDatedHours}
 use Rattle.gtd_hours_text.specs.facts.SameRules.{SameRules}
 use Rattle.gtd_hours_known.proofs.ApartFacts.{one_own}
-use Rattle.gtd_hours_file.proofs.Alike.{AreAllAlike, alike_append, alike_by}
-use Rattle.gtd_hours_file.proofs.AlikeDays.{made_alike}
+use Rattle.gtd_hours_options.proofs.Alike.{AreAllAlike, alike_append, alike_by}
+use Rattle.gtd_hours_options.proofs.AlikeDays.{made_alike}
 
 pub not_both : {A : Type 0} (o p : Option A) (x : A) → o ≡ p → o ≡ None → p ≡ Some x → ⊥
 not_both o p x same e f = cc

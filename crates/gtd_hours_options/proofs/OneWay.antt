@@ -20,9 +20,9 @@ use Rattle.gtd_hours_options.specs.declared.fault.OptionsFault.{OptionsFault}
 use Rattle.gtd_hours_options.specs.declared.fault.OptionsFault.TheVariants as wrong
 use Rattle.gtd_hours_options.specs.declared.fault.OptionsReadFault.TheVariants as reading
 use Rattle.gtd_hours_options.specs.declared.options.Options.{Options}
-use Rattle.gtd_hours_file.specs.SameAnswers.{AreReadInOneWay}
-use Rattle.gtd_hours_file.proofs.OneRules.{not_both, the_one}
-use Rattle.gtd_hours_file.proofs.Alike.{AreAllAlike, hours_of, same_cost, same_opening}
+use Rattle.gtd_hours_options.specs.Readings.{AreReadInOneWay}
+use Rattle.gtd_hours_options.proofs.OneRules.{not_both, the_one}
+use Rattle.gtd_hours_options.proofs.Alike.{AreAllAlike, hours_of, same_cost, same_opening}
 
 -- ---- one strict form
 

@@ -3,14 +3,13 @@
 ghost use Rattle.std.specs.Prelude.{◌≡◌, Some, get_or, option_map};
 ghost use Rattle.gtd_faults.specs.Snippet.{IsOfField};
 ghost use Rattle.gtd_faults.specs.Expected as of_records;
-ghost use Rattle.gtd_hours_file.specs.Listing as spec;
-ghost use Rattle.gtd_hours_file.specs.Refused.{refusal_snippet};
+ghost use Rattle.gtd_hours_faults.specs.Refused.{IsOfHours, IsOfTooMany, refusal_snippet};
 
-use crate::fault::HoursFileFault;
-use crate::words::accepted;
+use crate::accepted::{accepted, accepted_size};
+use crate::place::place_in;
 use gtd_core::TextFault;
 use gtd_faults::{Expected, Snippet, Stretch, accepted_at};
-use gtd_hours_grammar::HoursFault;
+use gtd_hours_options::OptionsFault;
 use gtd_records::RecordFault;
 use std::fmt;
 use std::fmt::{Display, Formatter};
@@ -69,34 +68,21 @@ pub fn domain_snippet(text: &str, fault: TextFault) -> RefusalSnippet<'_>
 }
 
 /// What is shown below the line that refuses a text as opening hours, for this fault.
-pub fn hours_snippet(text: &str, fault: HoursFault) -> RefusalSnippet<'_>
-    ensures snippet { IsOfField (Some text.now) fault.place result.snippet }
-    ensures accepted { option_map (λ words. words.now) result.accepted ≡ spec.accepted (HoursFileFault.Hours 1 fault) }
+pub fn hours_snippet(text: &str, fault: OptionsFault) -> RefusalSnippet<'_>
+    ensures shown { IsOfHours text.now fault result }
 {
     RefusalSnippet {
-        snippet: around(text, fault.place),
-        accepted: accepted(HoursFileFault::Hours { row: 1, fault }),
-    }
-}
-
-/// What is shown below the line that refuses a text that people read in two ways at this place.
-pub fn ambiguous_snippet(text: &str, place: usize) -> RefusalSnippet<'_>
-    ensures snippet { IsOfField (Some text.now) place result.snippet }
-    ensures accepted { option_map (λ words. words.now) result.accepted ≡ spec.accepted (HoursFileFault.Ambiguous 1 place) }
-{
-    RefusalSnippet {
-        snippet: around(text, place),
-        accepted: accepted(HoursFileFault::Ambiguous { row: 1, place }),
+        snippet: around(text, place_in(fault)),
+        accepted: Some(accepted(fault)),
     }
 }
 
 /// What is shown below the line that refuses opening hours whose domain would have more than 128 basic domains.
 pub fn too_many_snippet(text: &str) -> RefusalSnippet<'_>
-    ensures snippet { IsOfField (Some text.now) 0 result.snippet }
-    ensures accepted { option_map (λ words. words.now) result.accepted ≡ spec.accepted (HoursFileFault.TooMany 1) }
+    ensures shown { IsOfTooMany text.now result }
 {
     RefusalSnippet {
         snippet: around(text, 0),
-        accepted: accepted(HoursFileFault::TooMany { row: 1 }),
+        accepted: Some(accepted_size()),
     }
 }
