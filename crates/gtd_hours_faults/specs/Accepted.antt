@@ -1,5 +1,5 @@
 -- What a text of hours may have where a fault is, or what is to be given.
-use Rattle.std.specs.Prelude.{ℕ, List, codes}
+use Rattle.std.specs.Prelude.{◌++◌, ℕ, List, [], codes, decimal, Option, Some, None}
 use Rattle.gtd_hours_grammar.specs.declared.fault.FaultKind.{FaultKind}
 use Rattle.gtd_hours_grammar.specs.declared.fault.FaultKind.TheVariants as kind
 use Rattle.gtd_hours_known.specs.declared.fault.KnownFault.{KnownFault}
@@ -8,6 +8,8 @@ use Rattle.gtd_hours_moments.specs.declared.needs.NeedKind.{NeedKind}
 use Rattle.gtd_hours_moments.specs.declared.needs.NeedKind.TheVariants as need
 use Rattle.gtd_hours_options.specs.declared.fault.OptionsFault.{OptionsFault}
 use Rattle.gtd_hours_options.specs.declared.fault.OptionsFault.TheVariants as wrong
+use Rattle.gtd_hours_faults.specs.declared.accepted.Accepted.{Accepted}
+use Rattle.gtd_hours_faults.specs.declared.accepted.Accepted.TheVariants as said
 
 abbrev pub accepted_hours : FaultKind → List ℕ
 accepted_hours kind.BadToken = codes "words, numbers and signs of opening hours, such as Mo-Fr 08:00-18:00"
@@ -39,5 +41,26 @@ abbrev pub accepted : OptionsFault → List ℕ
 accepted (wrong.Known why) = accepted_known why
 accepted (wrong.Time why) = accepted_time why.kind
 
-abbrev pub accepted_size : List ℕ
-accepted_size = codes "hours that take at most 128 basic domains"
+-- ---- in a line
+
+-- nothing, words, or hours that take fewer than so many basic domains
+pub data Told : Type 0 where
+  nothing : Told
+  words : List ℕ → Told
+  fewer : ℕ → Told
+
+abbrev pub told_of : Accepted → Told
+told_of said.Nothing = Told.nothing
+told_of (said.Words words) = Told.words words.now
+told_of (said.Fewer needed) = Told.fewer needed
+
+-- words, if there are any
+abbrev pub told_in : Option (List ℕ) → Told
+told_in None = Told.nothing
+told_in (Some words) = Told.words words
+
+abbrev pub told_line : Told → List ℕ
+told_line Told.nothing = []
+told_line (Told.words words) = codes "    expected: " ++ (words ++ codes "\n")
+told_line (Told.fewer needed) =
+    codes "    expected: hours that take at most 128 basic domains; these take " ++ (decimal needed ++ codes "\n")

@@ -1,12 +1,14 @@
 //! What is accepted where a fault is.
 
-ghost use Rattle.std.specs.Prelude.{◌≡◌};
+ghost use Rattle.std.specs.Prelude.{◌≡◌, Some, option_map};
 ghost use Rattle.gtd_hours_faults.specs.Accepted as spec;
 
 use gtd_hours_grammar::FaultKind;
 use gtd_hours_known::KnownFault;
 use gtd_hours_moments::NeedKind;
 use gtd_hours_options::OptionsFault;
+use std::fmt;
+use std::fmt::{Display, Formatter};
 
 // What hours may have where a fault of this kind is.
 fn accepted_hours(kind: FaultKind) -> &'static str
@@ -73,9 +75,43 @@ pub fn accepted(fault: OptionsFault) -> &'static str
     }
 }
 
-/// How many basic domains hours may take, in words.
-pub fn accepted_size() -> &'static str
-    ensures words { result.now ≡ spec.accepted_size }
-{
-    "hours that take at most 128 basic domains"
+/// What is accepted where a fault is.
+#[derive(Clone, Copy)]
+pub enum Accepted {
+    /// Nothing is said of it.
+    Nothing,
+    /// What these words say.
+    Words(&'static str),
+    /// Hours that take fewer basic domains. These take so many, where `u32::MAX` stands for it and for more.
+    Fewer {
+        /// How many they take.
+        needed: u32,
+    },
+}
+
+impl Accepted {
+    /// These words, if there are any.
+    pub fn of_words(words: Option<&'static str>) -> Accepted
+        ensures told { spec.told_of result ≡ spec.told_in (option_map (λ w. w.now) words.entry) }
+    {
+        match words {
+            Some(words) => Accepted::Words(words),
+            None => Accepted::Nothing,
+        }
+    }
+}
+
+impl Display for Accepted {
+    ghost output = { λ shown. Some (spec.told_line (spec.told_of shown)) };
+
+    fn fmt<W: fmt::Write>(&self, f: &mut Formatter<W>) -> fmt::Result {
+        match self {
+            Accepted::Nothing => Ok(()),
+            Accepted::Words(words) => write!(f, "    expected: {words}\n"),
+            Accepted::Fewer { needed } => write!(
+                f,
+                "    expected: hours that take at most 128 basic domains; these take {needed}\n"
+            ),
+        }
+    }
 }

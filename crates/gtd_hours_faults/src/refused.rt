@@ -1,14 +1,15 @@
 //! What is shown below the line that refuses a text.
 
-ghost use Rattle.std.specs.Prelude.{◌≡◌, Some, get_or, option_map};
+ghost use Rattle.std.specs.Prelude.{◌≡◌, Some, get_or};
 ghost use Rattle.gtd_faults.specs.Snippet.{IsOfField};
 ghost use Rattle.gtd_faults.specs.Expected as of_records;
+ghost use Rattle.gtd_hours_faults.specs.Accepted.{told_in, told_of};
 ghost use Rattle.gtd_hours_faults.specs.Refused.{IsOfHours, IsOfTooMany, refusal_snippet};
 
-use crate::accepted::{accepted, accepted_size};
+use crate::accepted::{Accepted, accepted};
 use crate::place::place_in;
 use gtd_core::TextFault;
-use gtd_faults::{Expected, Snippet, Stretch, accepted_at};
+use gtd_faults::{Snippet, Stretch, accepted_at};
 use gtd_hours_options::OptionsFault;
 use gtd_records::RecordFault;
 use std::fmt;
@@ -20,8 +21,8 @@ use std::fmt::{Display, Formatter};
 pub struct RefusalSnippet<'a> {
     /// The stretch of the text.
     pub snippet: Snippet<'a>,
-    /// What is accepted there, in words.
-    pub accepted: Option<&'static str>,
+    /// What is accepted there.
+    pub accepted: Accepted,
 }
 
 impl Display for RefusalSnippet<'_> {
@@ -29,8 +30,8 @@ impl Display for RefusalSnippet<'_> {
 
     fn fmt<W: fmt::Write>(&self, f: &mut Formatter<W>) -> fmt::Result {
         let snippet = self.snippet;
-        let expected = Expected(self.accepted);
-        write!(f, "{snippet}{expected}")
+        let accepted = self.accepted;
+        write!(f, "{snippet}{accepted}")
     }
 }
 
@@ -57,13 +58,13 @@ fn byte_at(text: &str, place: usize) -> u8
 /// What is shown below the line that refuses a text as a time domain, for this fault.
 pub fn domain_snippet(text: &str, fault: TextFault) -> RefusalSnippet<'_>
     ensures snippet { IsOfField (Some text.now) fault.place result.snippet }
-    ensures accepted { option_map (λ words. words.now) result.accepted
-        ≡ of_records.accepted_at (RecordFault.Domain 1 fault) (get_or text.now fault.place 0) }
+    ensures accepted { told_of result.accepted
+        ≡ told_in (of_records.accepted_at (RecordFault.Domain 1 fault) (get_or text.now fault.place 0)) }
 {
     let letter = byte_at(text, fault.place);
     RefusalSnippet {
         snippet: around(text, fault.place),
-        accepted: accepted_at(RecordFault::Domain { row: 1, fault }, letter),
+        accepted: Accepted::of_words(accepted_at(RecordFault::Domain { row: 1, fault }, letter)),
     }
 }
 
@@ -73,16 +74,16 @@ pub fn hours_snippet(text: &str, fault: OptionsFault) -> RefusalSnippet<'_>
 {
     RefusalSnippet {
         snippet: around(text, place_in(fault)),
-        accepted: Some(accepted(fault)),
+        accepted: Accepted::Words(accepted(fault)),
     }
 }
 
-/// What is shown below the line that refuses opening hours whose domain would have more than 128 basic domains.
-pub fn too_many_snippet(text: &str) -> RefusalSnippet<'_>
-    ensures shown { IsOfTooMany text.now result }
+/// What is shown below the line that refuses opening hours whose domain would have so many basic domains.
+pub fn too_many_snippet(text: &str, needed: u32) -> RefusalSnippet<'_>
+    ensures shown { IsOfTooMany text.now needed result }
 {
     RefusalSnippet {
         snippet: around(text, 0),
-        accepted: Some(accepted_size()),
+        accepted: Accepted::Fewer { needed },
     }
 }

@@ -107,7 +107,7 @@ module _ (how : HowRead) (texts : HasVectors ℕ most_file_bytes) (each_text : I
   by_cost : (row b : ℕ) (text : List ℕ) → length (b ∷ text) ≤ most_file_bytes → (read : KnownHours) → Reads how (b ∷ text) read
       → Column row (b ∷ text)
   by_cost row b text le read is = elim (cases_lt most_basic_domains (hours_cost read.hours)) [
-    | inl many ↦ (Err (fault.TooMany row), IsHoursFault.of_many read is many refl)
+    | inl many ↦ (Err (fault.TooMany row (counted (hours_cost read.hours))), IsHoursFault.of_many read is many refl)
     | inr few ↦ let k = kept (b ∷ text) le read is few in (Ok (Some k.0), k.1)
   ]
 

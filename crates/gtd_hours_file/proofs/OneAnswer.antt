@@ -94,7 +94,8 @@ module _ (how : HowRead) (one_way : AreReadInOneWay how) where
       absurd (one_way.apart text read x q p)
   same_fault row text v w (IsHoursFault.of_many read p more e) (IsHoursFault.of_first y q f) =
       absurd (one_way.apart text read y p q)
-  same_fault row text v w (IsHoursFault.of_many read p more e) (IsHoursFault.of_many other q most f) = e ∙ sym f
+  same_fault row text v w (IsHoursFault.of_many read p more e) (IsHoursFault.of_many other q most f) =
+      e ∙ ap (λ (n : ℕ). fault.TooMany row (counted n)) (one_way.cost text read other p q) ∙ sym f
 
   not_faulty : (row : ℕ) (text : List ℕ) (given : RowHours) (w : HoursFileFault) → IsHoursOf how text given
       → IsHoursFault how row text w → ⊥

@@ -3,7 +3,7 @@ use Rattle.std.specs.Prelude.{◌≡◌, ◌≢◌, ◌<◌, ◌≤◌, ◌⊎�
 use Rattle.std.specs.Prelude.{Some, None, MatchOption}
 use Rattle.csv.specs.Reading.{default_config, records, strip_bom}
 use Rattle.gtd_core.specs.Limits.{most_basic_domains, most_file_bytes, most_rows}
-use Rattle.gtd_hours.specs.Cost.{hours_cost}
+use Rattle.gtd_hours.specs.Cost.{counted, hours_cost}
 use Rattle.gtd_hours_known.specs.declared.known.KnownHours.{KnownHours}
 use Rattle.gtd_hours_loose.specs.declared.manner.Manner.{Manner}
 use Rattle.gtd_hours_options.specs.Readings.{HasFault, HowRead, Reads}
@@ -19,11 +19,11 @@ use Rattle.gtd_hours_file.specs.declared.row.HoursRow.{HoursRow}
 use Rattle.gtd_hours_file.specs.declared.row.RowHours.{RowHours}
 
 -- What is wrong with a text of hours in the row with this number: its first fault; or hours are read of it whose domain has too
--- many basic domains.
+-- many basic domains, which are counted.
 pub data IsHoursFault (how : HowRead) (row : ℕ) (text : List ℕ) (why : HoursFileFault) : Type 0 where
   of_first : (bad : OptionsFault) → HasFault how text bad → why ≡ fault.Hours row bad → IsHoursFault how row text why
-  of_many : (read : KnownHours) → Reads how text read → most_basic_domains < hours_cost read.hours → why ≡ fault.TooMany row
-      → IsHoursFault how row text why
+  of_many : (read : KnownHours) → Reads how text read → most_basic_domains < hours_cost read.hours
+      → why ≡ fault.TooMany row (counted (hours_cost read.hours)) → IsHoursFault how row text why
 
 -- ---- columns and rows
 

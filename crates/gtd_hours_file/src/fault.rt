@@ -20,8 +20,8 @@ pub enum HoursFileFault {
     Vehicle { row: u32 },
     /// A row's fourth field is neither empty nor opening hours that are read; this is the fault of its text.
     Hours { row: u32, fault: OptionsFault },
-    /// The hours of a row take more than 128 basic domains.
-    TooMany { row: u32 },
+    /// The hours of a row take more than 128 basic domains: so many, where `u32::MAX` stands for it and for more.
+    TooMany { row: u32, needed: u32 },
     /// There are more than 65,536 rows.
     TooManyRows,
 }

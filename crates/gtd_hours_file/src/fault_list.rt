@@ -9,7 +9,7 @@ ghost use Rattle.gtd_hours_file.specs.Listing.{AreLines, IsSnippet, fault_text, 
 use crate::fault::HoursFileFault;
 use crate::words::{HoursFaultText, accepted};
 use gtd_core::limits::MOST_ROWS;
-use gtd_faults::{Expected, Printable, Rows, Snippet, Stretch, first_line};
+use gtd_faults::{Printable, Rows, Snippet, Stretch, first_line};
 use gtd_hours_faults::place_in;
 use std::alloc::{AllocError, Global};
 
@@ -25,7 +25,7 @@ fn row_of(fault: HoursFileFault) -> Option<u32>
         HoursFileFault::Direction { row } => Some(row),
         HoursFileFault::Vehicle { row } => Some(row),
         HoursFileFault::Hours { row, .. } => Some(row),
-        HoursFileFault::TooMany { row } => Some(row),
+        HoursFileFault::TooMany { row, .. } => Some(row),
         HoursFileFault::TooManyRows => Some(MOST_ROWS + 1),
     }
 }
@@ -65,8 +65,8 @@ fn push_fault(
 {
     let path = Printable(path.as_bytes());
     let words = HoursFaultText(fault);
-    let expected = Expected(accepted(fault));
-    write!(text, "{path}:{line}: {words}\n{snippet}{expected}")
+    let accepted = accepted(fault);
+    write!(text, "{path}:{line}: {words}\n{snippet}{accepted}")
 }
 
 /// The lines of these faults, in order, for the file with this path and these bytes.

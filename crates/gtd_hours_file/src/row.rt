@@ -109,8 +109,12 @@ fn read_text(
         Ok(read) => read,
         Err(why) => return Err(unread(number, why)),
     };
-    if cost_of(&read.hours) > u32::from(MOST_BASIC_DOMAINS) {
-        return Err(RowStop::Fault(HoursFileFault::TooMany { row: number }));
+    let needed = cost_of(&read.hours);
+    if needed > u32::from(MOST_BASIC_DOMAINS) {
+        return Err(RowStop::Fault(HoursFileFault::TooMany {
+            row: number,
+            needed,
+        }));
     }
     match kept(alloc, text, read, reading.options.known.years) {
         Ok(given) => Ok(given),

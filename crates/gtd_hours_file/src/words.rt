@@ -1,12 +1,14 @@
 //! The words of a fault.
 
 ghost use Rattle.std.specs.Prelude.{◌≡◌, Some, option_map};
+ghost use Rattle.gtd_faults.specs.Expected as of_records;
+ghost use Rattle.gtd_hours_faults.specs.Accepted.{told_in, told_of};
 ghost use Rattle.gtd_hours_file.specs.Listing as spec;
 ghost use Rattle.gtd_hours_file.specs.Listing.{fault_text};
 
 use crate::fault::HoursFileFault;
 use gtd_faults::accepted as accepted_of_record;
-use gtd_hours_faults::{OptionsFaultText, accepted as accepted_hours, accepted_size, place_in};
+use gtd_hours_faults::{Accepted, OptionsFaultText, accepted as accepted_hours, place_in};
 use gtd_records::RecordFault;
 use std::fmt;
 use std::fmt::{Display, Formatter};
@@ -33,26 +35,33 @@ impl Display for HoursFaultText {
                 };
                 write!(f, "row {row}: Hours {words}")
             }
-            HoursFileFault::TooMany { row } => write!(f, "row {row}: Hours TooMany at 0"),
+            HoursFileFault::TooMany { row, .. } => write!(f, "row {row}: Hours TooMany at 0"),
             HoursFileFault::TooManyRows => write!(f, "row 65537: TooManyRows"),
         }
     }
 }
 
+// What a record file may have where this fault is.
+fn accepted_in_records(fault: RecordFault) -> Accepted
+    ensures { told_of result ≡ told_in (of_records.accepted fault) }
+{
+    Accepted::of_words(accepted_of_record(fault))
+}
+
 /// What a file of hours may have where this fault is, in words. For `Header` it is shown below the first line, and so is not
 /// given here.
-pub fn accepted(fault: HoursFileFault) -> Option<&'static str>
-    ensures { option_map (λ text. text.now) result ≡ spec.accepted fault }
+pub fn accepted(fault: HoursFileFault) -> Accepted
+    ensures { told_of result ≡ spec.accepted fault }
 {
     match fault {
-        HoursFileFault::FieldCount { row } => accepted_of_record(RecordFault::FieldCount { row }),
-        HoursFileFault::Element { row } => accepted_of_record(RecordFault::Element { row }),
-        HoursFileFault::Direction { row } => accepted_of_record(RecordFault::Direction { row }),
-        HoursFileFault::Vehicle { row } => accepted_of_record(RecordFault::Vehicle { row }),
-        HoursFileFault::Hours { fault, .. } => Some(accepted_hours(fault)),
-        HoursFileFault::TooMany { .. } => Some(accepted_size()),
-        HoursFileFault::TooManyRows => accepted_of_record(RecordFault::TooManyRows),
-        HoursFileFault::TooLarge => accepted_of_record(RecordFault::TooLarge),
-        HoursFileFault::Header => None,
+        HoursFileFault::FieldCount { row } => accepted_in_records(RecordFault::FieldCount { row }),
+        HoursFileFault::Element { row } => accepted_in_records(RecordFault::Element { row }),
+        HoursFileFault::Direction { row } => accepted_in_records(RecordFault::Direction { row }),
+        HoursFileFault::Vehicle { row } => accepted_in_records(RecordFault::Vehicle { row }),
+        HoursFileFault::Hours { fault, .. } => Accepted::Words(accepted_hours(fault)),
+        HoursFileFault::TooMany { needed, .. } => Accepted::Fewer { needed },
+        HoursFileFault::TooManyRows => accepted_in_records(RecordFault::TooManyRows),
+        HoursFileFault::TooLarge => accepted_in_records(RecordFault::TooLarge),
+        HoursFileFault::Header => Accepted::Nothing,
     }
 }

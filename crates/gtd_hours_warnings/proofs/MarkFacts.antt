@@ -8,7 +8,7 @@ use Rattle.gtd_hours_holidays.specs.declared.known_years.KnownYears.{KnownYears}
 use Rattle.gtd_hours_known.specs.declared.known.KnownHours.{KnownHours}
 use Rattle.gtd_hours_loose.specs.declared.reader.LooseHours.{LooseHours}
 use Rattle.gtd_hours_loose.specs.declared.strict.StrictForm.{StrictForm}
-use Rattle.gtd_hours_warnings.specs.Marks.{AddsLast, AddsNotKnown, AddsRemarks, AddsYears, AreWarningsWith, IsKnownYearsWarning}
+use Rattle.gtd_hours_warnings.specs.Marks.{AddsNotKnown, AddsRemarks, AddsYears, AddsYearsIf, AreWarningsWith, IsKnownYearsWarning}
 use Rattle.gtd_hours_warnings.specs.Marks.{IsNotKnownWarning, IsRemarkWarning, comment_of, is_unquoted}
 use Rattle.gtd_hours_warnings.specs.Warnings.{AddsAllHides, AddsLooseForm, AreWarnings, put_in}
 use Rattle.gtd_hours_warnings.specs.declared.warnings.Warning.{Warning}
@@ -61,8 +61,10 @@ module _ (text : List ℕ) (read : KnownHours) (plain : LooseHours) (years : Opt
       subst (λ (l : List ℕ). AddsRemarks text read.form l w.loose w.remarked) remarks w.remarks in
       let two : w.marked ≡ w.remarked =
       subst (λ (l : List ℕ). AddsNotKnown l w.remarked w.marked) unknowns w.unknowns in
+      let end : found ≡ w.hidden =
+      subst (λ (o : Option ℕ). AddsYearsIf o years w.hidden found) first w.put in
       let put : AddsAllHides text read.hours read.form w.marked found =
-      subst (λ (o : Option ℕ). AddsLast text read o years w.marked found) first w.put in
+      subst (λ (l : List Warning). AddsAllHides text read.hours read.form w.marked l) (sym end) w.hides in
       record {
         loose = w.loose;
         are_loose = subst (λ (o : Option StrictForm). AddsLooseForm text o w.loose) (sym form) w.are_loose;
@@ -78,10 +80,11 @@ module _ (text : List ℕ) (read : KnownHours) (plain : LooseHours) (years : Opt
         loose = loose;
         remarked = loose;
         marked = loose;
+        hidden = found;
         are_loose = subst (λ (o : Option StrictForm). AddsLooseForm text o loose) form w.are_loose;
         remarks = subst (λ (l : List ℕ). AddsRemarks text read.form l loose loose) (sym remarks) (λ i. loose);
         unknowns = subst (λ (l : List ℕ). AddsNotKnown l loose loose) (sym unknowns) (λ i. loose);
-        put = subst (λ (o : Option ℕ). AddsLast text read o years loose found) (sym first)
-            (subst (λ (h : Hours). AddsAllHides text h read.form loose found) hours
-            (subst (λ (o : Option StrictForm). AddsAllHides text plain.hours o loose found) form w.put));
+        hides = subst (λ (h : Hours). AddsAllHides text h read.form loose found) hours
+            (subst (λ (o : Option StrictForm). AddsAllHides text plain.hours o loose found) form w.put);
+        put = subst (λ (o : Option ℕ). AddsYearsIf o years found found) (sym first) (λ i. found);
       }

@@ -75,21 +75,23 @@ AddsYears place None before after = after ≡ before
 AddsYears place (Some years) before after =
     (w : Warning) × IsKnownYearsWarning place years w × (after ≡ put_in w before)
 
--- What is put last: of a text without a first holiday the warnings of the rules that hide hours, of another one the years.
-abbrev pub AddsLast : List ℕ → KnownHours → Option ℕ → Option KnownYears → List Warning → List Warning → Type 0
-AddsLast text read None years before after = AddsAllHides text read.hours read.form before after
-AddsLast text read (Some place) years before after = AddsYears place years before after
+-- Of a text without a first holiday, nothing is put for the years.
+abbrev pub AddsYearsIf : Option ℕ → Option KnownYears → List Warning → List Warning → Type 0
+AddsYearsIf None years before after = after ≡ before
+AddsYearsIf (Some place) years before after = AddsYears place years before after
 
 -- ---- all
 
 -- The warnings of a text from which these hours are read, if holidays are known in these years: of what is written loosely, in
--- its order; and put to these, each at its place, first those of its remarks, then those of its rules that are not known, and
--- then those of the rules that hide hours or, if it has a holiday, the years.
+-- its order; and put to these, each at its place, first those of its remarks, then those of its rules that are not known, those
+-- of its rules that hide hours and, if it has a holiday, the years.
 pub record AreWarningsWith (text : List ℕ) (read : KnownHours) (years : Option KnownYears) (found : List Warning) : Type 0 where
   pub loose : List Warning
   pub remarked : List Warning
   pub marked : List Warning
+  pub hidden : List Warning
   pub are_loose : AddsLooseForm text read.form loose
   pub remarks : AddsRemarks text read.form read.remarks.items loose remarked
   pub unknowns : AddsNotKnown read.unknowns.items remarked marked
-  pub put : AddsLast text read read.first_holiday years marked found
+  pub hides : AddsAllHides text read.hours read.form marked hidden
+  pub put : AddsYearsIf read.first_holiday years hidden found

@@ -48,7 +48,7 @@ date_reason moment.Range = codes "not from 1901-01-01 to 2700-01-01"
 -- why it has no domain: its first fault and the place, or that the domain is too large
 abbrev pub no_domain_text : NoDomain → List ℕ
 no_domain_text (none.Fault why) = of_hours.fault_text (place_in why) why
-no_domain_text none.TooMany = codes "TooMany at 0"
+no_domain_text (none.TooMany needed) = codes "TooMany at 0"
 
 -- the name of a word
 abbrev pub word_name : WordName → List ℕ

@@ -31,6 +31,7 @@ use Rattle.gtdesk_tool.specs.declared.ending.Ending.{Ending}
 use Rattle.gtdesk_tool.specs.declared.ending.Ending.TheVariants as ending
 use Rattle.gtdesk_tool.specs.declared.refusal.RunRefusal.{RunRefusal}
 use Rattle.gtdesk_tool.specs.declared.refusal.RunRefusal.TheVariants as refusal
+use Rattle.gtdesk_words.specs.HoursWords.{too_many}
 use Rattle.gtdesk_words.specs.declared.refusal.NoDomain.TheVariants as none
 
 -- A text that is to be written strictly is read as it is written; another one also where it is written loosely, with these names
@@ -65,10 +66,10 @@ unread reading.NoMemory = refusal.Memory
 abbrev pub IsUnread : Manner → Text → RunRefusal → Type 0
 IsUnread how text r = (fault : LooseReadFault) × IsReadFaultIn how text fault × (r ≡ unread fault)
 
--- The refusal is of memory, or the hours take too many basic domains.
+-- The refusal is of memory, or the hours take too many basic domains, which are counted.
 abbrev pub IsUntranslated : Hours → RunRefusal → Type 0
 IsUntranslated hours r =
-    (r ≡ refusal.Memory) ⊎ ((r ≡ refusal.NoDomain none.TooMany) × (most_basic_domains < hours_cost hours))
+    (r ≡ refusal.Memory) ⊎ ((r ≡ refusal.NoDomain (too_many hours)) × (most_basic_domains < hours_cost hours))
 
 -- The line of the domain was put whole, the output was ended, and the warnings were told, if there are any. If the output failed,
 -- it had taken a first part of the line, and nothing was told.

@@ -1,8 +1,9 @@
 -- What is shown below the line of a refusal.
-use Rattle.std.specs.Prelude.{◌≡◌, ℕ, List, Some, None, get_or, option_map}
+use Rattle.std.specs.Prelude.{◌≡◌, ℕ, List, Some, get_or}
 use Rattle.gtd_faults.specs.Snippet.{IsOfField}
 use Rattle.gtd_faults.specs.Expected as of_records
 use Rattle.gtd_faults.specs.declared.snippet.Snippet.TheVariants as snippet
+use Rattle.gtd_hours_faults.specs.Accepted.{Told, told_in, told_of}
 use Rattle.gtd_hours_faults.specs.Refused.{IsOfHours, IsOfTooMany}
 use Rattle.gtd_hours_faults.specs.declared.refused.RefusalSnippet.{RefusalSnippet}
 use Rattle.gtd_records.specs.declared.fault.RecordFault.TheVariants as records
@@ -18,19 +19,18 @@ use Rattle.gtdesk_tool.specs.declared.refusal.RunRefusal.TheVariants as run
 
 -- nothing
 abbrev pub IsNothing : RefusalSnippet → Type 0
-IsNothing shown = (shown.snippet ≡ snippet.Nothing) × (shown.accepted ≡ None)
+IsNothing shown = (shown.snippet ≡ snippet.Nothing) × (told_of shown.accepted ≡ Told.nothing)
 
 -- what is shown of a text of opening hours without a domain
 abbrev pub IsOfText : List ℕ → NoDomain → RefusalSnippet → Type 0
 IsOfText text (none.Fault why) shown = IsOfHours text why shown
-IsOfText text none.TooMany shown = IsOfTooMany text shown
+IsOfText text (none.TooMany needed) shown = IsOfTooMany text needed shown
 
 -- what is shown of a word: of a time domain and of opening hours the text, of any other nothing
 abbrev pub IsOfWord : List ℕ → Reason → RefusalSnippet → Type 0
 IsOfWord text (reason.Domain why) shown =
     IsOfField (Some text) why.place shown.snippet
-    × (option_map (λ w. w.now) shown.accepted
-    ≡ of_records.accepted_at (records.Domain 1 why) (get_or text why.place 0))
+    × (told_of shown.accepted ≡ told_in (of_records.accepted_at (records.Domain 1 why) (get_or text why.place 0)))
 IsOfWord text (reason.Hours why) shown = IsOfText text why shown
 IsOfWord text other shown = IsNothing shown
 

@@ -83,7 +83,7 @@ impl Display for TextLine {
                 };
                 write!(f, "{words}")
             }
-            NoDomain::TooMany => write!(f, "TooMany at 0"),
+            NoDomain::TooMany { .. } => write!(f, "TooMany at 0"),
         }
     }
 }

@@ -18,7 +18,7 @@ use crate::refusal::RunRefusal;
 use gtd_core::Domain;
 use gtd_devices::Output;
 use gtd_hours::Hours;
-use gtd_hours_domain::{TranslationFault, domain_of};
+use gtd_hours_domain::{TranslationFault, cost_of, domain_of};
 use gtd_hours_known::KnownFault;
 use gtd_hours_loose::{LooseFault, LooseHours, LooseReadFault, Manner, read_hours_in};
 use gtd_hours_loose_tokens::DayNames;
@@ -88,7 +88,9 @@ fn domain_with(alloc: Global, hours: &Hours) -> Result<Domain, RunRefusal>
 {
     match domain_of(alloc, hours) {
         Ok(domain) => Ok(domain),
-        Err(TranslationFault::TooMany) => Err(RunRefusal::NoDomain(NoDomain::TooMany)),
+        Err(TranslationFault::TooMany) => Err(RunRefusal::NoDomain(NoDomain::TooMany {
+            needed: cost_of(hours),
+        })),
         Err(TranslationFault::NoMemory) => Err(RunRefusal::Memory),
     }
 }

@@ -4,7 +4,7 @@ ghost use Rattle.gtdesk_tool.specs.Shown.{IsNothing, IsOfRun, IsOfText, IsOfWord
 
 use crate::refusal::{Refusal, RunRefusal};
 use gtd_faults::Snippet;
-use gtd_hours_faults::{RefusalSnippet, domain_snippet, hours_snippet, too_many_snippet};
+use gtd_hours_faults::{Accepted, RefusalSnippet, domain_snippet, hours_snippet, too_many_snippet};
 use gtdesk_words::{NoDomain, Reason, WordsRefusal};
 
 // Nothing, of whatever text.
@@ -13,7 +13,7 @@ fn nothing(_text: &str) -> RefusalSnippet<'_>
 {
     RefusalSnippet {
         snippet: Snippet::Nothing,
-        accepted: None,
+        accepted: Accepted::Nothing,
     }
 }
 
@@ -23,7 +23,7 @@ fn of_text(text: &str, why: NoDomain) -> RefusalSnippet<'_>
 {
     match why {
         NoDomain::Fault(fault) => hours_snippet(text, fault),
-        NoDomain::TooMany => too_many_snippet(text),
+        NoDomain::TooMany { needed } => too_many_snippet(text, needed),
     }
 }
 

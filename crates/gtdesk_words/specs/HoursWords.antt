@@ -3,7 +3,7 @@ use Rattle.std.specs.Prelude.{◌≡◌, ◌↔◌, ◌<◌, ◌≤◌, ℤ}
 use Rattle.gtd_core.specs.Limits.{most_basic_domains}
 use Rattle.gtd_core.specs.declared.domain.Domain.{Domain}
 use Rattle.gtd_hours_domain.specs.Membership.{InDomain}
-use Rattle.gtd_hours.specs.Cost.{hours_cost}
+use Rattle.gtd_hours.specs.Cost.{counted, hours_cost}
 use Rattle.gtd_hours.specs.Opening.{IsOpen}
 use Rattle.gtd_hours.specs.declared.hours.Hours.{Hours}
 use Rattle.gtd_hours_grammar.specs.Faults.{IsFirstFault}
@@ -33,7 +33,12 @@ IsHoursDomain text domain = (hours : Hours) × StandsFor text hours × IsTransla
 abbrev pub plain_fault : HoursFault → OptionsFault
 plain_fault first = wrong.Known (known.Hours first)
 
+-- the refusal that says how many basic domains the hours take
+abbrev pub too_many : Hours → NoDomain
+too_many hours = none.TooMany (counted (hours_cost hours))
+
 -- Why a text has no domain: its first fault; or it stands for hours whose domain has too many basic domains.
 abbrev pub IsNoDomainOf : Text → NoDomain → Type 0
 IsNoDomainOf text (none.Fault why) = (first : HoursFault) × IsFirstFault text first × (why ≡ plain_fault first)
-IsNoDomainOf text none.TooMany = (hours : Hours) × StandsFor text hours × (most_basic_domains < hours_cost hours)
+IsNoDomainOf text (none.TooMany needed) =
+    (hours : Hours) × StandsFor text hours × (most_basic_domains < hours_cost hours) × (needed ≡ counted (hours_cost hours))

@@ -4,12 +4,12 @@ ghost use Rattle.std.specs.Prelude.{◌≡◌, ◌⊎◌, ◌<◌, IfErr, IfOk, 
 ghost use Rattle.gtd_core.specs.Limits.{most_basic_domains};
 ghost use Rattle.gtd_hours.specs.Cost.{hours_cost};
 ghost use Rattle.gtd_hours_text.specs.Standing.{StandsFor};
-ghost use Rattle.gtdesk_words.specs.HoursWords.{IsHoursDomain, IsNoDomainOf, IsTranslation};
+ghost use Rattle.gtdesk_words.specs.HoursWords.{IsHoursDomain, IsNoDomainOf, IsTranslation, too_many};
 
 use crate::refusal::NoDomain;
 use gtd_core::Domain;
 use gtd_hours::Hours;
-use gtd_hours_domain::{TranslationFault, domain_of};
+use gtd_hours_domain::{TranslationFault, cost_of, domain_of};
 use gtd_hours_known::KnownFault;
 use gtd_hours_options::OptionsFault;
 use gtd_hours_text::{HoursTextFault, read_hours};
@@ -33,11 +33,13 @@ fn hours_in(alloc: Global, text: &str) -> Result<Hours, Option<NoDomain>>
 fn domain_with(alloc: Global, hours: &Hours) -> Result<Domain, Option<NoDomain>>
     ensures same { IfOk result (IsTranslation hours.now) }
     ensures cause { IfErr result (λ why. (why ≡ None)
-        ⊎ ((why ≡ Some NoDomain.TooMany) × (most_basic_domains < hours_cost hours.now))) }
+        ⊎ ((why ≡ Some (too_many hours.now)) × (most_basic_domains < hours_cost hours.now))) }
 {
     match domain_of(alloc, hours) {
         Ok(domain) => Ok(domain),
-        Err(TranslationFault::TooMany) => Err(Some(NoDomain::TooMany)),
+        Err(TranslationFault::TooMany) => Err(Some(NoDomain::TooMany {
+            needed: cost_of(hours),
+        })),
         Err(TranslationFault::NoMemory) => Err(None),
     }
 }

@@ -62,7 +62,10 @@ pub enum NoDomain {
     /// The text is not read. This is its first fault.
     Fault(OptionsFault),
     /// The domain would have more than 128 basic domains.
-    TooMany,
+    TooMany {
+        /// How many it would have, where `u32::MAX` stands for it and for more.
+        needed: u32,
+    },
 }
 
 /// Why a word stands for nothing.

@@ -114,15 +114,16 @@ fits_or_not text one other a b few many =
 -- a text that has a domain has no reason to have none
 no_reason : (text : Text) → HasDomain text → (why : NoDomain) → IsNoDomainOf text why → ⊥
 no_reason text has (none.Fault bad) is = hours_or_fault text has.1.p is.0 has.1.is is.1
-no_reason text has none.TooMany is = fits_or_not text has.0 is.0 has.1 is.1 has.2 is.2
+no_reason text has (none.TooMany needed) is = fits_or_not text has.0 is.0 has.1 is.1 has.2 is.2.0
 
 -- a text has one reason
 one_reason : (text : Text) (a b : NoDomain) → IsNoDomainOf text a → IsNoDomainOf text b → a ≡ b
 one_reason text (none.Fault a) (none.Fault b) h k =
     ap none.Fault (h.2 ∙ ap plain_fault (one_first_fault text h.0 k.0 h.1 k.1) ∙ sym k.2)
-one_reason text (none.Fault a) none.TooMany h k = absurd (hours_or_fault text k.1.p h.0 k.1.is h.1)
-one_reason text none.TooMany (none.Fault b) h k = absurd (hours_or_fault text h.1.p k.0 h.1.is k.1)
-one_reason text none.TooMany none.TooMany h k = refl
+one_reason text (none.Fault a) (none.TooMany b) h k = absurd (hours_or_fault text k.1.p h.0 k.1.is h.1)
+one_reason text (none.TooMany a) (none.Fault b) h k = absurd (hours_or_fault text h.1.p k.0 h.1.is k.1)
+one_reason text (none.TooMany a) (none.TooMany b) h k =
+    ap none.TooMany (h.2.1 ∙ ap counted (one_cost text h.0 k.0 h.1 k.1) ∙ sym k.2.1)
 
 -- ---- rules and days
 
