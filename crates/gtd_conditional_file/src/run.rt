@@ -174,8 +174,8 @@ fn run_with<I: Input, O: Output>(
 /// the rows of an element close it for a vehicle type at a second exactly if its tags do. Hours in values are read in the
 /// manner that is given, with what is known of holidays, and with what is given for times. Answers the number of lines, the
 /// header included, and the warnings of these hours: where they are written loosely; which comments stand on open rules without a
-/// word that says so; which fallback rules are unknown; and in which years their holidays are known, or else which of their rules
-/// hide hours.
+/// word that says so; which fallback rules are unknown; which of their rules hide hours; and in which years their holidays are
+/// known.
 ///
 /// Errors, in their order: `MeansReadFault`, `MeansEndless` or `NoMemory` while the table is read; `Faults` if it is at fault,
 /// before the file of tags is pulled; `TagsReadFault`, `TagsEndless` or `NoMemory` while that is read; `Faults` if it or a value
