@@ -8,8 +8,8 @@ use Rattle.gtd_hours_moments.specs.declared.needs.NeedKind.{NeedKind}
 use Rattle.gtd_hours_moments.specs.declared.needs.NeedKind.TheVariants as need
 use Rattle.gtd_hours_options.specs.declared.fault.OptionsFault.{OptionsFault}
 use Rattle.gtd_hours_options.specs.declared.fault.OptionsFault.TheVariants as wrong
-use Rattle.gtd_hours_faults.specs.declared.accepted.Accepted.{Accepted}
-use Rattle.gtd_hours_faults.specs.declared.accepted.Accepted.TheVariants as said
+use Rattle.gtd_hours_faults.specs.declared.accepted.Expectation.{Expectation}
+use Rattle.gtd_hours_faults.specs.declared.accepted.Expectation.TheVariants as said
 
 abbrev pub accepted_hours : FaultKind → List ℕ
 accepted_hours kind.BadToken = codes "words, numbers and signs of opening hours, such as Mo-Fr 08:00-18:00"
@@ -49,7 +49,7 @@ pub data Told : Type 0 where
   words : List ℕ → Told
   fewer : ℕ → Told
 
-abbrev pub told_of : Accepted → Told
+abbrev pub told_of : Expectation → Told
 told_of said.Nothing = Told.nothing
 told_of (said.Words words) = Told.words words.now
 told_of (said.Fewer needed) = Told.fewer needed

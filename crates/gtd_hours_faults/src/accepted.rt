@@ -77,7 +77,7 @@ pub fn accepted(fault: OptionsFault) -> &'static str
 
 /// What is accepted where a fault is.
 #[derive(Clone, Copy)]
-pub enum Accepted {
+pub enum Expectation {
     /// Nothing is said of it.
     Nothing,
     /// What these words say.
@@ -89,26 +89,26 @@ pub enum Accepted {
     },
 }
 
-impl Accepted {
+impl Expectation {
     /// These words, if there are any.
-    pub fn of_words(words: Option<&'static str>) -> Accepted
+    pub fn of_words(words: Option<&'static str>) -> Expectation
         ensures told { spec.told_of result ≡ spec.told_in (option_map (λ w. w.now) words.entry) }
     {
         match words {
-            Some(words) => Accepted::Words(words),
-            None => Accepted::Nothing,
+            Some(words) => Expectation::Words(words),
+            None => Expectation::Nothing,
         }
     }
 }
 
-impl Display for Accepted {
+impl Display for Expectation {
     ghost output = { λ shown. Some (spec.told_line (spec.told_of shown)) };
 
     fn fmt<W: fmt::Write>(&self, f: &mut Formatter<W>) -> fmt::Result {
         match self {
-            Accepted::Nothing => Ok(()),
-            Accepted::Words(words) => write!(f, "    expected: {words}\n"),
-            Accepted::Fewer { needed } => write!(
+            Expectation::Nothing => Ok(()),
+            Expectation::Words(words) => write!(f, "    expected: {words}\n"),
+            Expectation::Fewer { needed } => write!(
                 f,
                 "    expected: hours that take at most 128 basic domains; these take {needed}\n"
             ),

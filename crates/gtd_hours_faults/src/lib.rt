@@ -4,7 +4,7 @@
 //! there.
 #![tactic(auto)]
 
-pub use accepted::{Accepted, accepted};
+pub use accepted::{Expectation, accepted};
 pub use place::place_in;
 pub use refused::{RefusalSnippet, domain_snippet, hours_snippet, too_many_snippet};
 pub use words::OptionsFaultText;

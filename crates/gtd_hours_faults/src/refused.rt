@@ -6,7 +6,7 @@ ghost use Rattle.gtd_faults.specs.Expected as of_records;
 ghost use Rattle.gtd_hours_faults.specs.Accepted.{told_in, told_of};
 ghost use Rattle.gtd_hours_faults.specs.Refused.{IsOfHours, IsOfTooMany, refusal_snippet};
 
-use crate::accepted::{Accepted, accepted};
+use crate::accepted::{Expectation, accepted};
 use crate::place::place_in;
 use gtd_core::TextFault;
 use gtd_faults::{Snippet, Stretch, accepted_at};
@@ -22,7 +22,7 @@ pub struct RefusalSnippet<'a> {
     /// The stretch of the text.
     pub snippet: Snippet<'a>,
     /// What is accepted there.
-    pub accepted: Accepted,
+    pub accepted: Expectation,
 }
 
 impl Display for RefusalSnippet<'_> {
@@ -64,7 +64,7 @@ pub fn domain_snippet(text: &str, fault: TextFault) -> RefusalSnippet<'_>
     let letter = byte_at(text, fault.place);
     RefusalSnippet {
         snippet: around(text, fault.place),
-        accepted: Accepted::of_words(accepted_at(RecordFault::Domain { row: 1, fault }, letter)),
+        accepted: Expectation::of_words(accepted_at(RecordFault::Domain { row: 1, fault }, letter)),
     }
 }
 
@@ -74,7 +74,7 @@ pub fn hours_snippet(text: &str, fault: OptionsFault) -> RefusalSnippet<'_>
 {
     RefusalSnippet {
         snippet: around(text, place_in(fault)),
-        accepted: Accepted::Words(accepted(fault)),
+        accepted: Expectation::Words(accepted(fault)),
     }
 }
 
@@ -84,6 +84,6 @@ pub fn too_many_snippet(text: &str, needed: u32) -> RefusalSnippet<'_>
 {
     RefusalSnippet {
         snippet: around(text, 0),
-        accepted: Accepted::Fewer { needed },
+        accepted: Expectation::Fewer { needed },
     }
 }

@@ -8,7 +8,7 @@ ghost use Rattle.gtd_hours_file.specs.Listing.{fault_text};
 
 use crate::fault::HoursFileFault;
 use gtd_faults::accepted as accepted_of_record;
-use gtd_hours_faults::{Accepted, OptionsFaultText, accepted as accepted_hours, place_in};
+use gtd_hours_faults::{Expectation, OptionsFaultText, accepted as accepted_hours, place_in};
 use gtd_records::RecordFault;
 use std::fmt;
 use std::fmt::{Display, Formatter};
@@ -42,15 +42,15 @@ impl Display for HoursFaultText {
 }
 
 // What a record file may have where this fault is.
-fn accepted_in_records(fault: RecordFault) -> Accepted
+fn accepted_in_records(fault: RecordFault) -> Expectation
     ensures { told_of result ≡ told_in (of_records.accepted fault) }
 {
-    Accepted::of_words(accepted_of_record(fault))
+    Expectation::of_words(accepted_of_record(fault))
 }
 
 /// What a file of hours may have where this fault is, in words. For `Header` it is shown below the first line, and so is not
 /// given here.
-pub fn accepted(fault: HoursFileFault) -> Accepted
+pub fn accepted(fault: HoursFileFault) -> Expectation
     ensures { told_of result ≡ spec.accepted fault }
 {
     match fault {
@@ -58,10 +58,10 @@ pub fn accepted(fault: HoursFileFault) -> Accepted
         HoursFileFault::Element { row } => accepted_in_records(RecordFault::Element { row }),
         HoursFileFault::Direction { row } => accepted_in_records(RecordFault::Direction { row }),
         HoursFileFault::Vehicle { row } => accepted_in_records(RecordFault::Vehicle { row }),
-        HoursFileFault::Hours { fault, .. } => Accepted::Words(accepted_hours(fault)),
-        HoursFileFault::TooMany { needed, .. } => Accepted::Fewer { needed },
+        HoursFileFault::Hours { fault, .. } => Expectation::Words(accepted_hours(fault)),
+        HoursFileFault::TooMany { needed, .. } => Expectation::Fewer { needed },
         HoursFileFault::TooManyRows => accepted_in_records(RecordFault::TooManyRows),
         HoursFileFault::TooLarge => accepted_in_records(RecordFault::TooLarge),
-        HoursFileFault::Header => Accepted::Nothing,
+        HoursFileFault::Header => Expectation::Nothing,
     }
 }

@@ -4,7 +4,9 @@ ghost use Rattle.gtdesk_tool.specs.Shown.{IsNothing, IsOfRun, IsOfText, IsOfWord
 
 use crate::refusal::{Refusal, RunRefusal};
 use gtd_faults::Snippet;
-use gtd_hours_faults::{Accepted, RefusalSnippet, domain_snippet, hours_snippet, too_many_snippet};
+use gtd_hours_faults::{
+    Expectation, RefusalSnippet, domain_snippet, hours_snippet, too_many_snippet,
+};
 use gtdesk_words::{NoDomain, Reason, WordsRefusal};
 
 // Nothing, of whatever text.
@@ -13,7 +15,7 @@ fn nothing(_text: &str) -> RefusalSnippet<'_>
 {
     RefusalSnippet {
         snippet: Snippet::Nothing,
-        accepted: Accepted::Nothing,
+        accepted: Expectation::Nothing,
     }
 }
 
