@@ -8,8 +8,8 @@ use Rattle.gtd_hours_moments.specs.declared.needs.NeedKind.{NeedKind}
 use Rattle.gtd_hours_moments.specs.declared.needs.NeedKind.TheVariants as need
 use Rattle.gtd_hours_options.specs.declared.fault.OptionsFault.{OptionsFault}
 use Rattle.gtd_hours_options.specs.declared.fault.OptionsFault.TheVariants as wrong
-use Rattle.gtd_hours_faults.specs.declared.accepted.Expectation.{Expectation}
-use Rattle.gtd_hours_faults.specs.declared.accepted.Expectation.TheVariants as said
+use Rattle.gtd_hours_faults.specs.declared.expected.Expectation.{Expectation}
+use Rattle.gtd_hours_faults.specs.declared.expected.Expectation.TheVariants as said
 
 abbrev pub accepted_hours : FaultKind → List ℕ
 accepted_hours kind.BadToken = codes "words, numbers and signs of opening hours, such as Mo-Fr 08:00-18:00"
@@ -51,16 +51,16 @@ pub data Told : Type 0 where
 
 abbrev pub told_of : Expectation → Told
 told_of said.Nothing = Told.nothing
-told_of (said.Words words) = Told.words words.now
+told_of (said.Words text) = Told.words text.now
 told_of (said.Fewer needed) = Told.fewer needed
 
 -- words, if there are any
 abbrev pub told_in : Option (List ℕ) → Told
 told_in None = Told.nothing
-told_in (Some words) = Told.words words
+told_in (Some text) = Told.words text
 
 abbrev pub told_line : Told → List ℕ
 told_line Told.nothing = []
-told_line (Told.words words) = codes "    expected: " ++ (words ++ codes "\n")
+told_line (Told.words text) = codes "    expected: " ++ (text ++ codes "\n")
 told_line (Told.fewer needed) =
     codes "    expected: hours that take at most 128 basic domains; these take " ++ (decimal needed ++ codes "\n")

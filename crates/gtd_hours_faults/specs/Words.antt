@@ -55,16 +55,16 @@ abbrev pub uncovered_day : OptionsFault → Option ℤ
 uncovered_day (wrong.Known why) = known_day why
 uncovered_day (wrong.Time why) = None
 
--- a day as a date; nothing, if the calendar has none
+-- a colon and the day as a date; nothing, if the calendar has none
 abbrev pub day_text : ℤ → List ℕ
 day_text day =
     if int_lt day first_calendar_day then []
     else if int_lt last_calendar_day day then []
-    else printable (date_text day)
+    else codes ": " ++ printable (date_text day)
 
 abbrev pub uncovered_text : Option ℤ → List ℕ
 uncovered_text None = []
-uncovered_text (Some day) = codes ": " ++ day_text day
+uncovered_text (Some day) = day_text day
 
 -- ---- all of it
 

@@ -4,12 +4,12 @@
 //! there.
 #![tactic(auto)]
 
-pub use accepted::{Expectation, accepted};
+pub use expected::{Expectation, accepted};
 pub use place::place_in;
 pub use refused::{RefusalSnippet, domain_snippet, hours_snippet, too_many_snippet};
 pub use words::OptionsFaultText;
 
-mod accepted;
+mod expected;
 mod place;
 mod refused;
 mod words;

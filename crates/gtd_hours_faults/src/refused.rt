@@ -6,7 +6,7 @@ ghost use Rattle.gtd_faults.specs.Expected as of_records;
 ghost use Rattle.gtd_hours_faults.specs.Accepted.{told_in, told_of};
 ghost use Rattle.gtd_hours_faults.specs.Refused.{IsOfHours, IsOfTooMany, refusal_snippet};
 
-use crate::accepted::{Expectation, accepted};
+use crate::expected::{Expectation, accepted};
 use crate::place::place_in;
 use gtd_core::TextFault;
 use gtd_faults::{Snippet, Stretch, accepted_at};

@@ -64,26 +64,7 @@ fn uncovered_day(fault: OptionsFault) -> Option<i64>
     }
 }
 
-/// A day as a date; nothing, if the calendar has none.
-#[derive(Drop)]
-struct DayText(i64);
-
-impl Display for DayText {
-    ghost output = { λ shown. Some (spec.day_text shown.0) };
-
-    fn fmt<W: fmt::Write>(&self, f: &mut Formatter<W>) -> fmt::Result {
-        if self.0 < FIRST_CALENDAR_DAY {
-            return Ok(());
-        }
-        if LAST_CALENDAR_DAY < self.0 {
-            return Ok(());
-        }
-        let date = write_date(self.0);
-        write!(f, "{}", Printable(&date))
-    }
-}
-
-/// A colon and the day that a table does not cover, if it is such a fault.
+/// A colon and the day that a table does not cover, as a date; nothing, if there is none, or the calendar has none.
 #[derive(Drop)]
 struct Uncovered(Option<i64>);
 
@@ -91,13 +72,17 @@ impl Display for Uncovered {
     ghost output = { λ shown. Some (spec.uncovered_text shown.0) };
 
     fn fmt<W: fmt::Write>(&self, f: &mut Formatter<W>) -> fmt::Result {
-        match self.0 {
-            None => Ok(()),
-            Some(day) => {
-                let day = DayText(day);
-                write!(f, ": {day}")
-            }
+        let Some(day) = self.0 else {
+            return Ok(());
+        };
+        if day < FIRST_CALENDAR_DAY {
+            return Ok(());
         }
+        if LAST_CALENDAR_DAY < day {
+            return Ok(());
+        }
+        let date = write_date(day);
+        write!(f, ": {}", Printable(&date))
     }
 }
 
