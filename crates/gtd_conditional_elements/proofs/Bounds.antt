@@ -5,7 +5,7 @@ use Rattle.std.proofs.lemmas.List.{length-map}
 use Rattle.std.specs.Prelude.{◌==◌, filter, ◌⊎◌, Result, Ok, Err, Some, None}
 use Rattle.gtd_core.specs.Limits.{most_rows}
 use Rattle.gtd_records.specs.Columns.{Fields}
-use Rattle.gtd_hours_loose.specs.declared.manner.Manner.{Manner}
+use Rattle.gtd_hours_options.specs.Readings.{HowRead}
 use Rattle.gtd_conditional_means.specs.declared.meaning.MeansRow.{MeansRow}
 use Rattle.gtd_conditional_rows.specs.Rows.{AreOrdered, AreRows, is_listed}
 use Rattle.gtd_conditional_rows.specs.declared.row.Row.{Row}
@@ -89,13 +89,13 @@ few_sound_one : (tag : Tag) (answer : Result ReadTag ConditionsFault) → length
 few_sound_one tag (Ok read) = omega arith
 few_sound_one tag (Err why) = omega arith
 
-few_sound : (manner : Manner) (means : List MeansRow) (tags : List Tag) (sound : List (ElementItem ReadTag))
+few_sound : (how : HowRead) (means : List MeansRow) (tags : List Tag) (sound : List (ElementItem ReadTag))
     (faults : List ConditionsFault)
-    → AreValues manner means tags sound faults → length sound ≤ length tags
-few_sound manner means [] sound faults are = rw (are.0) (omega arith)
-few_sound manner means (tag ∷ tags) sound faults are =
+    → AreValues how means tags sound faults → length sound ≤ length tags
+few_sound how means [] sound faults are = rw (are.0) (omega arith)
+few_sound how means (tag ∷ tags) sound faults are =
     let one = few_sound_one tag are.0 in
-    let more = few_sound manner means tags are.1 are.2 are.4 in
+    let more = few_sound how means tags are.1 are.2 are.4 in
     rw (are.5, length-append) (omega arith)
 
 few_tag : (says : said.RowSays) → length (said.tag_in says) ≤ 1
@@ -137,11 +137,11 @@ few_tags means bytes tags faults (inr large) = rw (large.1) (omega arith)
 
 -- ---- rows of a file
 
-pub few_of_file : (manner : Manner) (means : List MeansRow) (bytes : List ℕ) (rows : List ElementRow)
+pub few_of_file : (how : HowRead) (means : List MeansRow) (bytes : List ℕ) (rows : List ElementRow)
     (faults : List ConditionsFault)
-    → AreOfFile manner means bytes rows faults → length rows ≤ 25_952_256
-few_of_file manner means bytes rows faults are =
+    → AreOfFile how means bytes rows faults → length rows ≤ 25_952_256
+few_of_file how means bytes rows faults are =
     let tags = few_tags means bytes are.tags are.of_rows are.file in
-    let sound = few_sound manner means are.tags are.sound are.of_values are.values in
+    let sound = few_sound how means are.tags are.sound are.of_values are.values in
     let groups = few_groups are.sound are.groups are.grouped in
     let each = few_each means are.groups rows are.of_elements are.each in omega arith

@@ -7,7 +7,7 @@ use Rattle.std.proofs.lemmas.List.Elements.{All-head, All-tail}
 use Rattle.std.proofs.lemmas.List.Sorted.{length_permutation}
 use Rattle.gtd_records.specs.declared.direction.Direction.{Direction}
 use Rattle.gtd_records.specs.declared.vehicles.Vehicles.{Vehicles}
-use Rattle.gtd_hours_loose.specs.declared.manner.Manner.{Manner}
+use Rattle.gtd_hours_options.specs.Readings.{HowRead}
 use Rattle.gtd_conditional_means.specs.declared.meaning.MeansRow.{MeansRow}
 use Rattle.gtd_conditional_parts.specs.declared.said.Subject.{Subject}
 use Rattle.gtd_conditional_parts.specs.declared.said.Subject.TheVariants.{Access, Oneway}
@@ -189,9 +189,9 @@ module _ (means : List MeansRow) (direction : Direction) (t : ℕ) (s : ℤ) whe
     in_group sound (group ∷ groups) have (inr later) close =
         inr (in_group sound groups (All-tail (Has sound) group groups have) later close)
 
-    pub file_closes : (manner : Manner) (bytes : List ℕ) (rows : List ElementRow) (file : AreOfFile manner means bytes rows [])
+    pub file_closes : (how : HowRead) (bytes : List ℕ) (rows : List ElementRow) (file : AreOfFile how means bytes rows [])
         → SomeCloses e direction t s rows ↔ TagsClose means e direction t s file.sound
-    file_closes manner bytes rows file =
+    file_closes how bytes rows file =
         let none = none_left _ file.of_values file.of_elements file.listed.all in
         let by = groups_close file.groups rows file.of_elements none file.each in (
           (λ h. group_has file.sound file.groups file.grouped.items (by.0 h)),

@@ -1,7 +1,7 @@
 -- What a file of tags is: the rows of its elements, and all its faults.
 use Rattle.std.specs.Prelude.{◌≡◌, ◌++◌, ℕ, List, map}
 use Rattle.std.specs.List.Sorted.{IsNonDecreasingBy, IsPermutation}
-use Rattle.gtd_hours_loose.specs.declared.manner.Manner.{Manner}
+use Rattle.gtd_hours_options.specs.Readings.{HowRead}
 use Rattle.gtd_conditional_means.specs.declared.meaning.MeansRow.{MeansRow}
 use Rattle.gtd_conditional_tags.specs.File.{AreOfBytes}
 use Rattle.gtd_conditional_tags.specs.Groups.{HaveItems, each_once, elements_in, elements_of}
@@ -27,15 +27,15 @@ pub record AreAllFaults (rows : List TagsFault) (values elements faults : List C
   pub all : IsPermutation (map (λ why. fault.Row why) rows ++ values ++ elements) faults
   pub sorted : IsNonDecreasingBy row_number faults
 
--- The rows of a file's elements, and all its faults, by the rows of a table of means, if hours are read in this manner.
-pub record AreOfFile (manner : Manner) (means : List MeansRow) (bytes : List ℕ) (rows : List ElementRow)
+-- The rows of a file's elements, and all its faults, by the rows of a table of means, if hours are read so.
+pub record AreOfFile (how : HowRead) (means : List MeansRow) (bytes : List ℕ) (rows : List ElementRow)
     (faults : List ConditionsFault) : Type 0 where
   pub tags : List Tag
   pub of_rows : List TagsFault
   pub file : AreOfBytes means bytes tags of_rows
   pub sound : List (ElementItem ReadTag)
   pub of_values : List ConditionsFault
-  pub values : AreValues manner means tags sound of_values
+  pub values : AreValues how means tags sound of_values
   pub groups : List (ElementItems ReadTag)
   pub grouped : AreGroups sound groups
   pub of_elements : List ConditionsFault

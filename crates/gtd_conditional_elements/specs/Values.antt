@@ -1,6 +1,6 @@
 -- What the values of a file's tags say, or which fault they have.
 use Rattle.std.specs.Prelude.{◌≡◌, ℕ, Bool, true, false, ⊤, List, [], ◌∷◌, ◌++◌, Option, Some, None, Result, Ok, Err, slice_get}
-use Rattle.gtd_hours_loose.specs.declared.manner.Manner.{Manner}
+use Rattle.gtd_hours_options.specs.Readings.{HowRead}
 use Rattle.gtd_conditional_means.specs.declared.meaning.MeansRow.{MeansRow}
 use Rattle.gtd_conditional_parts.specs.Names.{subject_of}
 use Rattle.gtd_conditional_parts.specs.Values.{IsPlain, IsPlainFault, IsPlainStop, IsValue, IsValueFault, IsValueStop}
@@ -26,19 +26,19 @@ subject_in (Some row) = subject_of row.name.items
 abbrev pub subject_at : List MeansRow → ℕ → Subject
 subject_at rows mode = subject_in (slice_get rows mode)
 
--- the bytes say this: of a key with conditions its parts, whose hours are read in a manner; and of another one a name alone
-abbrev pub IsValueBy : Bool → Subject → Manner → List MeansRow → List ℕ → Value → Type 0
-IsValueBy true subject manner rows bytes value = IsValue subject manner rows bytes value
-IsValueBy false subject manner rows bytes value = IsPlain subject rows bytes value
+-- the bytes say this: of a key with conditions its parts, whose hours are read so; and of another one a name alone
+abbrev pub IsValueBy : Bool → Subject → HowRead → List MeansRow → List ℕ → Value → Type 0
+IsValueBy true subject how rows bytes value = IsValue subject how rows bytes value
+IsValueBy false subject how rows bytes value = IsPlain subject rows bytes value
 
 -- or have this fault first
-abbrev pub IsFaultBy : Bool → Subject → Manner → List MeansRow → List ℕ → ValueFault → Type 0
-IsFaultBy true subject manner rows bytes why = IsValueFault subject manner rows bytes why
-IsFaultBy false subject manner rows bytes why = IsPlainFault subject rows bytes why
+abbrev pub IsFaultBy : Bool → Subject → HowRead → List MeansRow → List ℕ → ValueFault → Type 0
+IsFaultBy true subject how rows bytes why = IsValueFault subject how rows bytes why
+IsFaultBy false subject how rows bytes why = IsPlainFault subject rows bytes why
 
-abbrev pub IsStopBy : Bool → Subject → Manner → List MeansRow → List ℕ → UnreadValue → Type 0
-IsStopBy true subject manner rows bytes why = IsValueStop subject manner rows bytes why
-IsStopBy false subject manner rows bytes why = IsPlainStop subject rows bytes why
+abbrev pub IsStopBy : Bool → Subject → HowRead → List MeansRow → List ℕ → UnreadValue → Type 0
+IsStopBy true subject how rows bytes why = IsValueStop subject how rows bytes why
+IsStopBy false subject how rows bytes why = IsPlainStop subject rows bytes why
 
 -- what a tag adds to those that are sound, and to the faults
 abbrev pub sound_of : Tag → Result ReadTag ConditionsFault → List (ElementItem ReadTag)
@@ -49,15 +49,15 @@ abbrev pub faults_of : Result ReadTag ConditionsFault → List ConditionsFault
 faults_of (Ok read) = []
 faults_of (Err why) = why ∷ []
 
-module _ (manner : Manner) (rows : List MeansRow) where
+module _ (how : HowRead) (rows : List MeansRow) where
   abbrev pub IsValueOf : Tag → Value → Type 0
-  IsValueOf tag value = IsValueBy tag.key.conditional (subject_at rows tag.key.mode) manner rows tag.value.items value
+  IsValueOf tag value = IsValueBy tag.key.conditional (subject_at rows tag.key.mode) how rows tag.value.items value
 
   abbrev pub IsFaultOf : Tag → ValueFault → Type 0
-  IsFaultOf tag why = IsFaultBy tag.key.conditional (subject_at rows tag.key.mode) manner rows tag.value.items why
+  IsFaultOf tag why = IsFaultBy tag.key.conditional (subject_at rows tag.key.mode) how rows tag.value.items why
 
   abbrev pub IsStopOf : Tag → UnreadValue → Type 0
-  IsStopOf tag why = IsStopBy tag.key.conditional (subject_at rows tag.key.mode) manner rows tag.value.items why
+  IsStopOf tag why = IsStopBy tag.key.conditional (subject_at rows tag.key.mode) how rows tag.value.items why
 
   -- The tag with what its value says. None of its parts has hours that need too many basic domains.
   pub record IsSound (tag : Tag) (read : ReadTag) : Type 0 where

@@ -2,6 +2,7 @@
 
 ghost use Rattle.std.specs.Prelude.{◌≡◌, ◌++◌, ◌≤◌, map, length, IfOk, OnOk};
 ghost use Rattle.std.specs.List.Sorted.{IsNonDecreasingBy, IsPermutation};
+ghost use Rattle.gtd_hours_options.specs.Readings.{how_read};
 ghost use Rattle.gtd_conditional_elements.specs.Elements as spec;
 ghost use Rattle.gtd_conditional_elements.specs.Faults.{row_number};
 ghost use Rattle.gtd_conditional_elements.specs.File.{AreOfFile};
@@ -15,7 +16,7 @@ use crate::values::read_values;
 use crate::warnings::warnings_of;
 use gtd_conditional_means::Means;
 use gtd_conditional_tags::{ElementItems, TagsFault, by_element, read_tags};
-use gtd_hours_loose::Manner;
+use gtd_hours_options::HoursReading;
 use std::alloc::{AllocError, Global};
 
 /// What a file of tags says. It is accepted exactly if it has no fault.
@@ -93,8 +94,8 @@ fn all_faults(
     Ok(sorted(faults))
 }
 
-/// The rows of a file of tags with this path and these bytes, by a table of means, if hours are read in this manner; all its
-/// faults; and its warnings.
+/// The rows of a file of tags with this path and these bytes, by a table of means, if hours are read so; all its faults; and its
+/// warnings.
 ///
 /// Elements stand in the order in which they first come. Of each come the rows of access, and then those of one-way traffic. A
 /// row at fault, and one whose value is, says nothing of its element.
@@ -107,19 +108,19 @@ fn all_faults(
 pub fn read_elements(
     alloc: Global,
     means: &Means,
-    manner: Manner,
+    reading: HoursReading<'_>,
     path: &str,
     bytes: &[u8],
 ) -> Result<ElementsFile, AllocError>
     ensures file { IfOk result (λ file.
-        AreOfFile manner means.now.rows.items bytes.now file.rows.items file.faults.items) }
+        AreOfFile (how_read reading.entry) means.now.rows.items bytes.now file.rows.items file.faults.items) }
     ensures warned { IfOk result (λ file.
-        (found : AreOfFile manner means.now.rows.items bytes.now file.rows.items file.faults.items)
+        (found : AreOfFile (how_read reading.entry) means.now.rows.items bytes.now file.rows.items file.faults.items)
         × AreWarnings path.now bytes.now found.sound file.warnings.items) }
     ensures few { IfOk result (λ file. length file.rows.items ≤ 25952256) }
 {
     let file = read_tags(alloc, means, bytes)?;
-    let values = read_values(alloc, means, manner, file.tags.as_slice())?;
+    let values = read_values(alloc, means, reading, file.tags.as_slice())?;
     let warnings = warnings_of(alloc, path, bytes, values.sound.as_slice())?;
     let groups = by_element(alloc, values.sound)?;
     let found = rows_of_elements(alloc, means, groups)?;

@@ -1,6 +1,7 @@
 //! The tags of a file, with what their values say.
 
 ghost use Rattle.std.specs.Prelude.{◌≡◌, IfOk, IfErr};
+ghost use Rattle.gtd_hours_options.specs.Readings.{how_read};
 ghost use Rattle.gtd_conditional_elements.specs.Values as spec;
 
 use crate::fault::ConditionsFault;
@@ -8,7 +9,7 @@ use gtd_conditional_means::Means;
 use gtd_conditional_parts::{Subject, UnreadValue, Value, read_plain, read_value, subject_of};
 use gtd_conditional_steps::{Tag, needs_too_many};
 use gtd_conditional_tags::Tag as FileTag;
-use gtd_hours_loose::Manner;
+use gtd_hours_options::HoursReading;
 use std::alloc::Global;
 
 /// A tag of a way, with what its value says.
@@ -43,15 +44,15 @@ fn subject_at(means: &Means, mode: usize) -> Subject
 fn read_said(
     alloc: Global,
     means: &Means,
-    manner: Manner,
+    reading: HoursReading<'_>,
     tag: &FileTag,
 ) -> Result<Value, UnreadValue>
-    ensures value { IfOk result (λ read. spec.IsValueOf manner means.now.rows.items tag.now read) }
-    ensures fault { IfErr result (λ why. spec.IsStopOf manner means.now.rows.items tag.now why) }
+    ensures value { IfOk result (λ read. spec.IsValueOf (how_read reading.entry) means.now.rows.items tag.now read) }
+    ensures fault { IfErr result (λ why. spec.IsStopOf (how_read reading.entry) means.now.rows.items tag.now why) }
 {
     let subject = subject_at(means, tag.key.mode);
     if tag.key.conditional {
-        read_value(alloc, means, manner, subject, tag.value.as_slice())
+        read_value(alloc, means, reading, subject, tag.value.as_slice())
     } else {
         read_plain(alloc, means, subject, tag.value.as_slice())
     }
@@ -61,12 +62,12 @@ fn read_said(
 pub(crate) fn read_tag(
     alloc: Global,
     means: &Means,
-    manner: Manner,
+    reading: HoursReading<'_>,
     tag: &FileTag,
 ) -> Result<ReadTag, TagStop>
-    ensures { spec.IsTagRead manner means.now.rows.items tag.now result }
+    ensures { spec.IsTagRead (how_read reading.entry) means.now.rows.items tag.now result }
 {
-    let value = match read_said(alloc, means, manner, tag) {
+    let value = match read_said(alloc, means, reading, tag) {
         Ok(value) => value,
         Err(UnreadValue::Fault(fault)) => {
             return Err(TagStop::Fault(ConditionsFault::Value {

@@ -8,6 +8,7 @@ use Rattle.gtd_conditional_parts.specs.declared.value.ValueFault.TheVariants as 
 use Rattle.gtd_conditional_tags.specs.declared.fault.TagsFault.{TagsFault}
 use Rattle.gtd_conditional_tags.specs.declared.fault.TagsFault.TheVariants as row
 use Rattle.gtd_conditional_values.specs.declared.term.TermFault.TheVariants as term
+use Rattle.gtd_hours_faults.specs.Accepted as hours
 use Rattle.gtd_faults.specs.Expected.{accepted_bytes, accepted_element, accepted_rows}
 use Rattle.gtd_conditional_faults.specs.declared.fault.FileFault.{FileFault}
 use Rattle.gtd_conditional_faults.specs.declared.fault.FileFault.TheVariants as fault
@@ -47,9 +48,7 @@ accepted_value (value.Value place) =
     codes "no, yes, designated, permissive or a value of the table of means; of oneway yes, no or -1"
 accepted_value (value.Term (term.Condition place)) =
     codes "a word or a comparison that the table of means has as a condition"
-accepted_value (value.Term (term.Hours start why)) = codes "opening hours, such as Mo-Fr 08:00-18:00"
-accepted_value (value.Term (term.Ambiguous start at)) =
-    codes "what is read in one way: weekdays in English, and times such as 08:00"
+accepted_value (value.Term (term.Hours start why)) = hours.accepted why
 
 -- What a file may have where this fault is. The header that is expected is shown below the first line.
 abbrev pub accepted : FileFault → Option (List ℕ)

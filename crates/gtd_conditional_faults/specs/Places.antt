@@ -11,6 +11,7 @@ use Rattle.gtd_conditional_parts.specs.declared.value.ValueFault.TheVariants as 
 use Rattle.gtd_conditional_tags.specs.declared.fault.TagsFault.{TagsFault}
 use Rattle.gtd_conditional_tags.specs.declared.fault.TagsFault.TheVariants as row
 use Rattle.gtd_conditional_values.specs.declared.term.TermFault.TheVariants as term
+use Rattle.gtd_hours_faults.specs.Words.{place_in}
 use Rattle.gtd_conditional_faults.specs.declared.fault.FileFault.{FileFault}
 use Rattle.gtd_conditional_faults.specs.declared.fault.FileFault.TheVariants as fault
 
@@ -20,8 +21,7 @@ abbrev pub place_of : ValueFault → ℕ
 place_of (value.Part place) = place
 place_of (value.Value place) = place
 place_of (value.Term (term.Condition place)) = place
-place_of (value.Term (term.Hours start why)) = min (start + why.place) 18_446_744_073_709_551_615
-place_of (value.Term (term.Ambiguous start at)) = min (start + at) 18_446_744_073_709_551_615
+place_of (value.Term (term.Hours start why)) = min (start + place_in why) 18_446_744_073_709_551_615
 
 -- the row that a fault is of, if it is of one; `TooManyRows` is of the first row too many
 abbrev pub means_row : MeansFault → Option ℕ

@@ -7,7 +7,7 @@ use Rattle.gtd_conditional_parts.specs.declared.value.ValueFault.{ValueFault}
 use Rattle.gtd_conditional_parts.specs.declared.value.ValueFault.TheVariants as value
 use Rattle.gtd_conditional_tags.specs.FaultTexts as row
 use Rattle.gtd_conditional_values.specs.declared.term.TermFault.TheVariants as term
-use Rattle.gtd_hours_grammar.specs.KindNames.{kind_name}
+use Rattle.gtd_hours_faults.specs.Words as hours
 use Rattle.gtd_conditional_faults.specs.Places.{place_of}
 use Rattle.gtd_conditional_faults.specs.declared.fault.FileFault.{FileFault}
 use Rattle.gtd_conditional_faults.specs.declared.fault.FileFault.TheVariants as fault
@@ -18,9 +18,7 @@ value_text (value.Part place) = codes "Part at " ++ decimal place
 value_text (value.Value place) = codes "Value at " ++ decimal place
 value_text (value.Term (term.Condition place)) = codes "Condition at " ++ decimal place
 value_text (value.Term (term.Hours start why)) =
-    codes "Hours " ++ kind_name why.kind ++ codes " at " ++ decimal (place_of (value.Term (term.Hours start why)))
-value_text (value.Term (term.Ambiguous start at)) =
-    codes "Hours Ambiguous at " ++ decimal (place_of (value.Term (term.Ambiguous start at)))
+    codes "Hours " ++ hours.fault_text (place_of (value.Term (term.Hours start why))) why
 
 -- the row and the fault
 abbrev pub tags_text : ConditionsFault → List ℕ

@@ -10,6 +10,7 @@ use gtd_conditional_parts::ValueFault;
 use gtd_conditional_tags::TagsFault;
 use gtd_conditional_values::TermFault;
 use gtd_faults::accepted as accepted_of_record;
+use gtd_hours_faults::accepted as accepted_of_hours;
 use gtd_records::RecordFault;
 
 // What a table of means may have where this fault is.
@@ -66,10 +67,7 @@ fn accepted_value(fault: ValueFault) -> &'static str
         ValueFault::Term(TermFault::Condition { .. }) => {
             "a word or a comparison that the table of means has as a condition"
         }
-        ValueFault::Term(TermFault::Hours { .. }) => "opening hours, such as Mo-Fr 08:00-18:00",
-        ValueFault::Term(TermFault::Ambiguous { .. }) => {
-            "what is read in one way: weekdays in English, and times such as 08:00"
-        }
+        ValueFault::Term(TermFault::Hours { fault, .. }) => accepted_of_hours(fault),
     }
 }
 

@@ -10,6 +10,7 @@ use gtd_conditional_parts::ValueFault;
 use gtd_conditional_tags::TagsFault;
 use gtd_conditional_values::TermFault;
 use gtd_core::limits::MOST_ROWS;
+use gtd_hours_faults::place_in;
 
 /// The place of a fault in its value: of hours, where they begin, and their own place from there on.
 pub(crate) fn place_of(fault: ValueFault) -> usize
@@ -19,8 +20,9 @@ pub(crate) fn place_of(fault: ValueFault) -> usize
         ValueFault::Part { place } => place,
         ValueFault::Value { place } => place,
         ValueFault::Term(TermFault::Condition { place }) => place,
-        ValueFault::Term(TermFault::Hours { start, fault }) => start.saturating_add(fault.place),
-        ValueFault::Term(TermFault::Ambiguous { start, place }) => start.saturating_add(place),
+        ValueFault::Term(TermFault::Hours { start, fault }) => {
+            start.saturating_add(place_in(fault))
+        }
     }
 }
 

@@ -10,6 +10,7 @@ use gtd_conditional_means::MeansFaultText;
 use gtd_conditional_parts::ValueFault;
 use gtd_conditional_tags::TagsFaultText;
 use gtd_conditional_values::TermFault;
+use gtd_hours_faults::OptionsFaultText;
 use std::fmt;
 use std::fmt::{Display, Formatter};
 
@@ -27,11 +28,8 @@ impl Display for ValueFaultText {
             ValueFault::Value { .. } => write!(f, "Value at {place}"),
             ValueFault::Term(TermFault::Condition { .. }) => write!(f, "Condition at {place}"),
             ValueFault::Term(TermFault::Hours { fault, .. }) => {
-                let kind = fault.kind.name();
-                write!(f, "Hours {kind} at {place}")
-            }
-            ValueFault::Term(TermFault::Ambiguous { .. }) => {
-                write!(f, "Hours Ambiguous at {place}")
+                let words = OptionsFaultText { fault, place };
+                write!(f, "Hours {words}")
             }
         }
     }
@@ -59,7 +57,8 @@ impl Display for ConditionsFaultText {
     }
 }
 
-/// A fault in words: its row, if it has one; its kind; and for a fault of a value, the place there.
+/// A fault in words: its row, if it has one; its kind; for a fault of a value, the place there; and a day that a table of holidays
+/// does not cover.
 #[derive(Clone, Copy)]
 pub struct FaultText(pub FileFault);
 

@@ -11,7 +11,7 @@ use Rattle.gtd_report.specs.Run.{TookFirst}
 use Rattle.gtd_report.specs.declared.output.Progress.{Progress}
 use Rattle.gtd_report.specs.declared.output.Stop.{Stop}
 use Rattle.gtd_report.specs.declared.output.Stop.TheVariants.{Output, Memory}
-use Rattle.gtd_hours_loose.specs.declared.manner.Manner.{Manner}
+use Rattle.gtd_hours_options.specs.Readings.{HowRead}
 use Rattle.gtd_conditional_elements.specs.Faults.{row_number}
 use Rattle.gtd_conditional_elements.specs.File.{AreOfFile}
 use Rattle.gtd_conditional_elements.specs.declared.fault.ConditionsFault.TheVariants as fault
@@ -39,25 +39,25 @@ took_first x a b q lines puts =
     let few = puts.1 in
     (omega arith, rw is at puts.2)
 
-stopped : (manner : Manner) (x : Stop) (means tags : List ℕ) (old new : Option (List ℕ)) (q : Progress) (rows : List ElementRow)
-    → AreRowsOf manner means tags rows → PutsRows migrated (Err x) old new nothing_put q rows
-    → TookFirstRecords manner means tags old new q.written
-stopped manner x means tags old new q rows files put = record {
+stopped : (how : HowRead) (x : Stop) (means tags : List ℕ) (old new : Option (List ℕ)) (q : Progress) (rows : List ElementRow)
+    → AreRowsOf how means tags rows → PutsRows migrated (Err x) old new nothing_put q rows
+    → TookFirstRecords how means tags old new q.written
+stopped how x means tags old new q rows files put = record {
   first = put.0;
   rest = put.1;
   found = put.2;
-  files = subst (AreRowsOf manner means tags) put.3 files;
+  files = subst (AreRowsOf how means tags) put.3 files;
   restrictions = put.4;
   took = took_first x old new q (migrated put.2) put.5;
 }
 
 -- what a run did with files without a fault
-pub has_converted : (manner : Manner) (r : Result (Unit {0}) Stop) (paths : TwoPaths) (means tags : List ℕ)
+pub has_converted : (how : HowRead) (r : Result (Unit {0}) Stop) (paths : TwoPaths) (means tags : List ℕ)
     (old new : Option (List ℕ))
     (q : Progress) (rows : List ElementRow)
-    → AreRowsOf manner means tags rows → PutsRows migrated r old new nothing_put q rows
-    → HasConverted manner paths (Some means) (Some tags) old new (answer_of r q)
-has_converted manner (Ok x) paths means tags old new q rows files put = record {
+    → AreRowsOf how means tags rows → PutsRows migrated r old new nothing_put q rows
+    → HasConverted how paths (Some means) (Some tags) old new (answer_of r q)
+has_converted how (Ok x) paths means tags old new q rows files put = record {
   rows = rows;
   found = put.0;
   files = files;
@@ -65,35 +65,35 @@ has_converted manner (Ok x) paths means tags old new q rows files put = record {
   taken = put.2.0;
   counted = ap (λ (t : Progress). t.lines) put.2.1 ∙ none_before (length (migrated put.0));
 }
-has_converted manner (Err Output) paths means tags old new q rows files put =
-    stopped manner Output means tags old new q rows files put
-has_converted manner (Err Memory) paths means tags old new q rows files put =
-    inr (stopped manner Memory means tags old new q rows files put)
+has_converted how (Err Output) paths means tags old new q rows files put =
+    stopped how Output means tags old new q rows files put
+has_converted how (Err Memory) paths means tags old new q rows files put =
+    inr (stopped how Memory means tags old new q rows files put)
 
 -- ---- what an input told
 
 -- if the input of the tags tells its bytes, these were read
-pub tags_told : (manner : Manner) (paths : TwoPaths) (table bytes : List ℕ) (file old new : Option (List ℕ))
+pub tags_told : (how : HowRead) (paths : TwoPaths) (table bytes : List ℕ) (file old new : Option (List ℕ))
     (r : Result ℕ Unconverted)
-    → IfSome file (λ all. bytes ≡ all) → HasConverted manner paths (Some table) (Some bytes) old new r
-    → HasConverted manner paths (Some table) file old new r
-tags_told manner paths table bytes (Some all) old new r same has =
-    subst (λ (b : List ℕ). HasConverted manner paths (Some table) (Some b) old new r) same has
-tags_told manner paths table bytes None old new (Ok count) same has = tt
-tags_told manner paths table bytes None old new (Err (why.Faults text)) same has = (has.0, inr tt)
-tags_told manner paths table bytes None old new (Err why.MeansReadFault) same has = has
-tags_told manner paths table bytes None old new (Err why.MeansEndless) same has = has
-tags_told manner paths table bytes None old new (Err why.TagsReadFault) same has = has
-tags_told manner paths table bytes None old new (Err why.TagsEndless) same has = has
-tags_told manner paths table bytes None old new (Err (why.WriteFault n)) same has = tt
-tags_told manner paths table bytes None old new (Err (why.NoMemory n)) same (inl nothing) = inl nothing
-tags_told manner paths table bytes None old new (Err (why.NoMemory n)) same (inr some) = inr tt
+    → IfSome file (λ all. bytes ≡ all) → HasConverted how paths (Some table) (Some bytes) old new r
+    → HasConverted how paths (Some table) file old new r
+tags_told how paths table bytes (Some all) old new r same has =
+    subst (λ (b : List ℕ). HasConverted how paths (Some table) (Some b) old new r) same has
+tags_told how paths table bytes None old new (Ok count) same has = tt
+tags_told how paths table bytes None old new (Err (why.Faults text)) same has = (has.0, inr tt)
+tags_told how paths table bytes None old new (Err why.MeansReadFault) same has = has
+tags_told how paths table bytes None old new (Err why.MeansEndless) same has = has
+tags_told how paths table bytes None old new (Err why.TagsReadFault) same has = has
+tags_told how paths table bytes None old new (Err why.TagsEndless) same has = has
+tags_told how paths table bytes None old new (Err (why.WriteFault n)) same has = tt
+tags_told how paths table bytes None old new (Err (why.NoMemory n)) same (inl nothing) = inl nothing
+tags_told how paths table bytes None old new (Err (why.NoMemory n)) same (inr some) = inr tt
 
 -- ---- files that are too large: neither their line nor what is shown below it is taken from the bytes
 
-large_file : (manner : Manner) (means : List MeansRow) (bytes : List ℕ) → most_file_bytes < length bytes
-    → AreOfFile manner means bytes [] (fault.Row row.TooLarge ∷ [])
-large_file manner means bytes more = record {
+large_file : (how : HowRead) (means : List MeansRow) (bytes : List ℕ) → most_file_bytes < length bytes
+    → AreOfFile how means bytes [] (fault.Row row.TooLarge ∷ [])
+large_file how means bytes more = record {
   tags = [];
   of_rows = row.TooLarge ∷ [];
   file = inr (more, refl, refl);
@@ -113,56 +113,56 @@ large_file manner means bytes more = record {
 some_fault : {F : Type 0} (x : F) → x ∷ [] ≡ [] → ⊥
 some_fault x e = cc
 
-large_tags_list : (manner : Manner) (path table : List ℕ) (rows : List MeansRow) (text : List ℕ) (file : Option (List ℕ))
+large_tags_list : (how : HowRead) (path table : List ℕ) (rows : List MeansRow) (text : List ℕ) (file : Option (List ℕ))
     → IsTable table (Ok rows) → IfSome file (λ all. most_file_bytes < length all)
-    → AreLines path [] (of_tags (fault.Row row.TooLarge ∷ [])) text → IfSome file (λ tags. IsTagsList manner path table tags text)
-large_tags_list manner path table rows text None read more lines = tt
-large_tags_list manner path table rows text (Some tags) read more lines = record {
+    → AreLines path [] (of_tags (fault.Row row.TooLarge ∷ [])) text → IfSome file (λ tags. IsTagsList how path table tags text)
+large_tags_list how path table rows text None read more lines = tt
+large_tags_list how path table rows text (Some tags) read more lines = record {
   table = rows;
   read = read;
   rows = [];
   faults = fault.Row row.TooLarge ∷ [];
-  file = large_file manner rows tags more;
+  file = large_file how rows tags more;
   some = some_fault (fault.Row row.TooLarge);
   lines = lines;
 }
 
-pub large_tags : (manner : Manner) (paths : TwoPaths) (path table : List ℕ) (rows : List MeansRow) (file taken : Option (List ℕ))
+pub large_tags : (how : HowRead) (paths : TwoPaths) (path table : List ℕ) (rows : List MeansRow) (file taken : Option (List ℕ))
     (answer : Unconverted) → paths.tags ≡ path → IsTable table (Ok rows) → IfSome file (λ all. most_file_bytes < length all)
     → IsRefusal path [] (of_tags (fault.Row row.TooLarge ∷ [])) answer
-    → HasConverted manner paths (Some table) file taken taken (Err answer)
-large_tags manner paths path table rows file taken (why.Faults text) same read more list = (
+    → HasConverted how paths (Some table) file taken taken (Err answer)
+large_tags how paths path table rows file taken (why.Faults text) same read more list = (
   Keeps-refl taken,
-  inr (large_tags_list manner paths.tags table rows (string_bytes text) file read more
+  inr (large_tags_list how paths.tags table rows (string_bytes text) file read more
       (subst (λ (p : List ℕ). AreLines p [] (of_tags (fault.Row row.TooLarge ∷ [])) (string_bytes text)) (sym same) list)),
 )
-large_tags manner paths path table rows file taken why.MeansReadFault same read more list = absurd list
-large_tags manner paths path table rows file taken why.MeansEndless same read more list = absurd list
-large_tags manner paths path table rows file taken why.TagsReadFault same read more list = absurd list
-large_tags manner paths path table rows file taken why.TagsEndless same read more list = absurd list
-large_tags manner paths path table rows file taken (why.WriteFault n) same read more list = absurd list
-large_tags manner paths path table rows file taken (why.NoMemory n) same read more list = inl (list, Keeps-refl taken)
+large_tags how paths path table rows file taken why.MeansReadFault same read more list = absurd list
+large_tags how paths path table rows file taken why.MeansEndless same read more list = absurd list
+large_tags how paths path table rows file taken why.TagsReadFault same read more list = absurd list
+large_tags how paths path table rows file taken why.TagsEndless same read more list = absurd list
+large_tags how paths path table rows file taken (why.WriteFault n) same read more list = absurd list
+large_tags how paths path table rows file taken (why.NoMemory n) same read more list = inl (list, Keeps-refl taken)
 
-large_means_list : (manner : Manner) (paths : TwoPaths) (text : List ℕ) (table file : Option (List ℕ))
+large_means_list : (how : HowRead) (paths : TwoPaths) (text : List ℕ) (table file : Option (List ℕ))
     → IfSome table (λ all. most_file_bytes < length all)
     → AreLines paths.means [] (of_means (means.TooLarge ∷ [])) text
     → IfSome table (λ bytes. IsMeansList paths.means bytes text
-    ⊎ IfSome file (λ tags. IsTagsList manner paths.tags bytes tags text))
-large_means_list manner paths text None file more lines = tt
-large_means_list manner paths text (Some bytes) file more lines = inl (record {
+    ⊎ IfSome file (λ tags. IsTagsList how paths.tags bytes tags text))
+large_means_list how paths text None file more lines = tt
+large_means_list how paths text (Some bytes) file more lines = inl (record {
   faults = means.TooLarge ∷ [];
   all = ([], inr (more, refl, refl), some_fault means.TooLarge);
   lines = lines;
 })
 
-pub large_means : (manner : Manner) (paths : TwoPaths) (table file taken : Option (List ℕ)) (answer : Unconverted)
+pub large_means : (how : HowRead) (paths : TwoPaths) (table file taken : Option (List ℕ)) (answer : Unconverted)
     → IfSome table (λ all. most_file_bytes < length all) → IsRefusal paths.means [] (of_means (means.TooLarge ∷ [])) answer
-    → HasConverted manner paths table file taken taken (Err answer)
-large_means manner paths table file taken (why.Faults text) more list =
-    (Keeps-refl taken, large_means_list manner paths (string_bytes text) table file more list)
-large_means manner paths table file taken why.MeansReadFault more list = absurd list
-large_means manner paths table file taken why.MeansEndless more list = absurd list
-large_means manner paths table file taken why.TagsReadFault more list = absurd list
-large_means manner paths table file taken why.TagsEndless more list = absurd list
-large_means manner paths table file taken (why.WriteFault n) more list = absurd list
-large_means manner paths table file taken (why.NoMemory n) more list = inl (list, Keeps-refl taken)
+    → HasConverted how paths table file taken taken (Err answer)
+large_means how paths table file taken (why.Faults text) more list =
+    (Keeps-refl taken, large_means_list how paths (string_bytes text) table file more list)
+large_means how paths table file taken why.MeansReadFault more list = absurd list
+large_means how paths table file taken why.MeansEndless more list = absurd list
+large_means how paths table file taken why.TagsReadFault more list = absurd list
+large_means how paths table file taken why.TagsEndless more list = absurd list
+large_means how paths table file taken (why.WriteFault n) more list = absurd list
+large_means how paths table file taken (why.NoMemory n) more list = inl (list, Keeps-refl taken)

@@ -1,7 +1,7 @@
 -- What a run that translates a file of tags did, by its answer.
 use Rattle.std.specs.Prelude.{◌≡◌, ◌≢◌, ◌⊎◌, ℕ, ◌+◌, List, [], ◌++◌, length, string_bytes, Option, IfSome, Result, Ok, Err, ⊤}
 use Rattle.std.specs.Io.KnownBytes.{Appends, Keeps}
-use Rattle.gtd_hours_loose.specs.declared.manner.Manner.{Manner}
+use Rattle.gtd_hours_options.specs.Readings.{HowRead}
 use Rattle.gtd_conditional_elements.specs.File.{AreOfFile}
 use Rattle.gtd_conditional_elements.specs.declared.fault.ConditionsFault.{ConditionsFault}
 use Rattle.gtd_conditional_elements.specs.declared.found.ElementRow.{ElementRow}
@@ -31,13 +31,13 @@ pub record TwoPaths : Type 0 where
 abbrev pub paths_of : Paths → TwoPaths
 paths_of paths = record { tags = paths.tags.now; means = paths.means.now }
 
--- ---- what two files stand for, if hours in values are read in a manner
+-- ---- what two files stand for, if hours in values are read so
 
 -- The bytes are a table of means, and by it a file of tags without a fault, which stands for these rows of its elements.
-pub record AreRowsOf (manner : Manner) (means tags : List ℕ) (rows : List ElementRow) : Type 0 where
+pub record AreRowsOf (how : HowRead) (means tags : List ℕ) (rows : List ElementRow) : Type 0 where
   pub table : List MeansRow
   pub read : IsTable means (Ok table)
-  pub file : AreOfFile manner table tags rows []
+  pub file : AreOfFile how table tags rows []
 
 -- The text lists all faults of a table of means, which are at least one.
 pub record IsMeansList (path means text : List ℕ) : Type 0 where
@@ -46,32 +46,32 @@ pub record IsMeansList (path means text : List ℕ) : Type 0 where
   pub lines : AreLines path means (of_means faults) text
 
 -- The bytes are a table of means, and the text lists all faults of a file of tags by it, which are at least one.
-pub record IsTagsList (manner : Manner) (path means tags text : List ℕ) : Type 0 where
+pub record IsTagsList (how : HowRead) (path means tags text : List ℕ) : Type 0 where
   pub table : List MeansRow
   pub read : IsTable means (Ok table)
   pub rows : List ElementRow
   pub faults : List ConditionsFault
-  pub file : AreOfFile manner table tags rows faults
+  pub file : AreOfFile how table tags rows faults
   pub some : faults ≢ []
   pub lines : AreLines path tags (of_tags faults) text
 
 -- ---- what the output took
 
 -- The output took the record file of the rows that the files stand for, which has so many lines.
-pub record PutsRecords (manner : Manner) (means tags : List ℕ) (old new : Option (List ℕ)) (count : ℕ) : Type 0 where
+pub record PutsRecords (how : HowRead) (means tags : List ℕ) (old new : Option (List ℕ)) (count : ℕ) : Type 0 where
   pub rows : List ElementRow
   pub found : List Restriction
-  pub files : AreRowsOf manner means tags rows
+  pub files : AreRowsOf how means tags rows
   pub restrictions : AreRestrictions rows found
   pub taken : Appends old new (text_of (migrated found))
   pub counted : count ≡ length (migrated found)
 
 -- The output took the first n bytes of the header line and the lines of first ones of these rows.
-pub record TookFirstRecords (manner : Manner) (means tags : List ℕ) (old new : Option (List ℕ)) (n : ℕ) : Type 0 where
+pub record TookFirstRecords (how : HowRead) (means tags : List ℕ) (old new : Option (List ℕ)) (n : ℕ) : Type 0 where
   pub first : List ElementRow
   pub rest : List ElementRow
   pub found : List Restriction
-  pub files : AreRowsOf manner means tags (first ++ rest)
+  pub files : AreRowsOf how means tags (first ++ rest)
   pub restrictions : AreRestrictions first found
   pub took : TookFirst old new n (text_of (migrated found))
 
@@ -80,21 +80,21 @@ abbrev pub IfBoth : Option (List ℕ) → Option (List ℕ) → (List ℕ → Li
 IfBoth table file P = IfSome table (λ means. IfSome file (λ tags. P means tags))
 
 -- What the output took, by the answer; and, if the inputs tell their bytes, what these are.
-abbrev pub HasConverted : Manner → TwoPaths → Option (List ℕ) → Option (List ℕ) → Option (List ℕ) → Option (List ℕ)
+abbrev pub HasConverted : HowRead → TwoPaths → Option (List ℕ) → Option (List ℕ) → Option (List ℕ) → Option (List ℕ)
     → Result ℕ Unconverted → Type 0
-HasConverted manner paths table file old new (Ok count) =
-    IfBoth table file (λ means tags. PutsRecords manner means tags old new count)
-HasConverted manner paths table file old new (Err (why.Faults text)) =
+HasConverted how paths table file old new (Ok count) =
+    IfBoth table file (λ means tags. PutsRecords how means tags old new count)
+HasConverted how paths table file old new (Err (why.Faults text)) =
     Keeps old new × IfSome table (λ means. IsMeansList paths.means means (string_bytes text)
-    ⊎ IfSome file (λ tags. IsTagsList manner paths.tags means tags (string_bytes text)))
-HasConverted manner paths table file old new (Err why.MeansReadFault) = Keeps old new
-HasConverted manner paths table file old new (Err why.MeansEndless) = Keeps old new
-HasConverted manner paths table file old new (Err why.TagsReadFault) = Keeps old new
-HasConverted manner paths table file old new (Err why.TagsEndless) = Keeps old new
-HasConverted manner paths table file old new (Err (why.WriteFault n)) =
-    IfBoth table file (λ means tags. TookFirstRecords manner means tags old new n)
-HasConverted manner paths table file old new (Err (why.NoMemory n)) =
-    ((n ≡ 0) × Keeps old new) ⊎ IfBoth table file (λ means tags. TookFirstRecords manner means tags old new n)
+    ⊎ IfSome file (λ tags. IsTagsList how paths.tags means tags (string_bytes text)))
+HasConverted how paths table file old new (Err why.MeansReadFault) = Keeps old new
+HasConverted how paths table file old new (Err why.MeansEndless) = Keeps old new
+HasConverted how paths table file old new (Err why.TagsReadFault) = Keeps old new
+HasConverted how paths table file old new (Err why.TagsEndless) = Keeps old new
+HasConverted how paths table file old new (Err (why.WriteFault n)) =
+    IfBoth table file (λ means tags. TookFirstRecords how means tags old new n)
+HasConverted how paths table file old new (Err (why.NoMemory n)) =
+    ((n ≡ 0) × Keeps old new) ⊎ IfBoth table file (λ means tags. TookFirstRecords how means tags old new n)
 
 -- ---- which answers there are, and the failures that they count
 

@@ -7,7 +7,7 @@ ghost use Rattle.gtd_conditional_elements.specs.declared.found.ElementRow.{Eleme
 ghost use Rattle.gtd_conditional_file.specs.Records.{AreRestrictions};
 ghost use Rattle.gtd_conditional_means.specs.declared.meaning.MeansRow.{MeansRow};
 ghost use Rattle.gtd_conditional_rows.specs.Types.{IsVehicle};
-ghost use Rattle.gtd_hours_loose.specs.declared.manner.Manner.{Manner};
+ghost use Rattle.gtd_hours_options.specs.Readings.{HowRead};
 ghost use Rattle.gtd_records.specs.Closing.{IsClosed, Restriction};
 ghost use Rattle.gtd_records.specs.declared.direction.Direction.{Direction};
 
@@ -16,8 +16,8 @@ use gtd_conditional_elements::laws::closes_as_the_tags_say;
 /// The restrictions that are put for a file of tags without a fault close an element in a direction for a vehicle type at a
 /// second, over all time, exactly if the tags of the element do, by what they say of access or of one-way traffic.
 pub fn restrictions_close_as_the_tags_say()
-    ensures closes { (manner : Manner) (table : List MeansRow) (bytes : List ℕ) (rows : List ElementRow)
-        (found : List Restriction) (file : AreOfFile manner table bytes rows []) → AreRestrictions rows found
+    ensures closes { (how : HowRead) (table : List MeansRow) (bytes : List ℕ) (rows : List ElementRow)
+        (found : List Restriction) (file : AreOfFile how table bytes rows []) → AreRestrictions rows found
         → (element : ℕ) (direction : Direction) (t : ℕ) (s : ℤ) → IsVehicle t
         → IsClosed found element direction t s ↔ TagsClose table element direction t s file.sound }
 {

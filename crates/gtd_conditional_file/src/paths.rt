@@ -1,6 +1,6 @@
 //! How the two files are read.
 
-use gtd_hours_loose::Manner;
+use gtd_hours_options::HoursReading;
 
 /// The paths of the two files, as faults name them.
 #[derive(Clone, Copy)]
@@ -17,5 +17,5 @@ pub struct ConditionsReading<'a> {
     /// Their paths.
     pub paths: Paths<'a>,
     /// How hours in values are read.
-    pub manner: Manner,
+    pub hours: HoursReading<'a>,
 }

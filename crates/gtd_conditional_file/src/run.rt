@@ -5,7 +5,7 @@ ghost use Rattle.gtd_conditional_means.specs.Table.{IsTable};
 ghost use Rattle.gtd_conditional_file.specs.Run as spec;
 ghost use Rattle.gtd_conditional_file.specs.Run.{HasConverted, lines_of};
 ghost use Rattle.gtd_conditional_file.specs.Warned.{IsWarned};
-ghost use Rattle.gtd_hours_loose.specs.declared.manner.Manner.{Manner};
+ghost use Rattle.gtd_hours_options.specs.Readings.{HowRead, how_read};
 
 use crate::converted::Converted;
 use crate::lists::{means_refusal, tags_refusal};
@@ -43,8 +43,8 @@ fn put_sound<O: Output>(
 ) -> Result<u64, Unconverted>
     requires writable { O.failure_count output.old < u64.MAX }
     requires few { length rows.now ≤ 4294967295 }
-    ensures stands { (manner : Manner) (paths : spec.TwoPaths) (means tags : List ℕ) → spec.AreRowsOf manner means tags rows.now
-        → HasConverted manner paths (Some means) (Some tags) (O.taken output.old) (O.taken output.new) result }
+    ensures stands { (how : HowRead) (paths : spec.TwoPaths) (means tags : List ℕ) → spec.AreRowsOf how means tags rows.now
+        → HasConverted how paths (Some means) (Some tags) (O.taken output.old) (O.taken output.new) result }
     ensures cause { IfErr result spec.IsPutStop }
     ensures ended { OnOk result (IsTrue (O.is_ended output.new)) }
     ensures failures { O.failure_count output.new
@@ -79,16 +79,16 @@ fn put_tags<O: Output>(
 ) -> Result<Converted, Unconverted>
     requires writable { O.failure_count output.old < u64.MAX }
     ensures stands { (table : List ℕ) → IsTable table (Ok means.now.rows.items)
-        → HasConverted reading.entry.manner (spec.paths_of reading.entry.paths) (Some table) (Some bytes.now)
+        → HasConverted (how_read reading.entry.hours) (spec.paths_of reading.entry.paths) (Some table) (Some bytes.now)
         (O.taken output.old) (O.taken output.new) (lines_of result) }
     ensures warned { (table : List ℕ) → IsTable table (Ok means.now.rows.items)
-        → IsWarned reading.entry.manner (spec.paths_of reading.entry.paths) (Some table) (Some bytes.now) result }
+        → IsWarned (how_read reading.entry.hours) (spec.paths_of reading.entry.paths) (Some table) (Some bytes.now) result }
     ensures cause { IfErr result spec.IsPutStop }
     ensures ended { OnOk result (IsTrue (O.is_ended output.new)) }
     ensures failures { O.failure_count output.new
         ≡ spec.failures_after_putting result (O.failure_count output.old) }
 {
-    let Ok(file) = read_elements(alloc, means, reading.manner, reading.paths.tags, bytes) else {
+    let Ok(file) = read_elements(alloc, means, reading.hours, reading.paths.tags, bytes) else {
         return Err(Unconverted::NoMemory { written: 0 });
     };
     if !file.faults.is_empty() {
@@ -109,10 +109,10 @@ fn run_tags<I: Input, O: Output>(
     requires readable { I.failure_count tags.old < u64.MAX }
     requires writable { O.failure_count output.old < u64.MAX }
     ensures stands { (table : List ℕ) → IsTable table (Ok means.now.rows.items)
-        → HasConverted reading.entry.manner (spec.paths_of reading.entry.paths) (Some table) (I.to_come tags.old)
+        → HasConverted (how_read reading.entry.hours) (spec.paths_of reading.entry.paths) (Some table) (I.to_come tags.old)
         (O.taken output.old) (O.taken output.new) (lines_of result) }
     ensures warned { (table : List ℕ) → IsTable table (Ok means.now.rows.items)
-        → IsWarned reading.entry.manner (spec.paths_of reading.entry.paths) (Some table) (I.to_come tags.old) result }
+        → IsWarned (how_read reading.entry.hours) (spec.paths_of reading.entry.paths) (Some table) (I.to_come tags.old) result }
     ensures cause { IfErr result spec.IsTagsStop }
     ensures ended { OnOk result (IsTrue (O.is_ended output.new)) }
     ensures endless { IsErrOf result Unconverted.TagsEndless → IsTrue (I.may_fall_silent tags.old) }
@@ -145,10 +145,10 @@ fn run_with<I: Input, O: Output>(
 ) -> Result<Converted, Unconverted>
     requires readable { I.failure_count tags.old < u64.MAX }
     requires writable { O.failure_count output.old < u64.MAX }
-    ensures stands { HasConverted reading.entry.manner (spec.paths_of reading.entry.paths) (Some bytes.now) (I.to_come tags.old)
-        (O.taken output.old) (O.taken output.new) (lines_of result) }
-    ensures warned { IsWarned reading.entry.manner (spec.paths_of reading.entry.paths) (Some bytes.now) (I.to_come tags.old)
-        result }
+    ensures stands { HasConverted (how_read reading.entry.hours) (spec.paths_of reading.entry.paths) (Some bytes.now)
+        (I.to_come tags.old) (O.taken output.old) (O.taken output.new) (lines_of result) }
+    ensures warned { IsWarned (how_read reading.entry.hours) (spec.paths_of reading.entry.paths) (Some bytes.now)
+        (I.to_come tags.old) result }
     ensures cause { IfErr result spec.IsTagsStop }
     ensures ended { OnOk result (IsTrue (O.is_ended output.new)) }
     ensures endless { IsErrOf result Unconverted.TagsEndless → IsTrue (I.may_fall_silent tags.old) }
@@ -172,8 +172,10 @@ fn run_with<I: Input, O: Output>(
 /// Puts the record file of version 2 that a file of tags stands for by a table of means, which two inputs bring: the elements
 /// in the order in which they first come, of each first the rows of access and then those of one-way traffic. In each direction
 /// the rows of an element close it for a vehicle type at a second exactly if its tags do. Hours in values are read in the
-/// manner that is given. Answers the number of lines, the header included, and the warnings of these hours: where they are
-/// written loosely, and which of their rules hide hours.
+/// manner that is given, with what is known of holidays, and with what is given for times. Answers the number of lines, the
+/// header included, and the warnings of these hours: where they are written loosely; which comments stand on open rules without a
+/// word that says so; which fallback rules are unknown; which of their rules hide hours; and in which years their holidays are
+/// known.
 ///
 /// Errors, in their order: `MeansReadFault`, `MeansEndless` or `NoMemory` while the table is read; `Faults` if it is at fault,
 /// before the file of tags is pulled; `TagsReadFault`, `TagsEndless` or `NoMemory` while that is read; `Faults` if it or a value
@@ -192,10 +194,10 @@ pub fn run_conditions<I: Input, J: Input, O: Output>(
     // What each answer means. The number of lines: the output took the record file of the rows that the two files stand for.
     // `Faults`: the text lists all faults of the table of means, or, if it has none, of the file of tags, and nothing was put.
     // `WriteFault`, or `NoMemory` after both files were read: the output took a first part of the lines of the first rows.
-    ensures stands { HasConverted reading.entry.manner (spec.paths_of reading.entry.paths) (J.to_come means.old)
+    ensures stands { HasConverted (how_read reading.entry.hours) (spec.paths_of reading.entry.paths) (J.to_come means.old)
         (I.to_come tags.old) (O.taken output.old) (O.taken output.new) (lines_of result) }
     // The warnings are those of the hours in the values, down to the last byte, each with the line on which the row begins.
-    ensures warned { IsWarned reading.entry.manner (spec.paths_of reading.entry.paths) (J.to_come means.old)
+    ensures warned { IsWarned (how_read reading.entry.hours) (spec.paths_of reading.entry.paths) (J.to_come means.old)
         (I.to_come tags.old) result }
     // An output that took the whole text was then ended, last of all.
     ensures ended { OnOk result (IsTrue (O.is_ended output.new)) }

@@ -2,7 +2,7 @@
 use Rattle.std.proofs.Common.{◌≡◌, ◌∙◌, ap, sym, subst, refl, arith, ◌≤◌, ◌<◌, ◌+◌, ℕ, false, true, List, [], ◌∷◌, ◌++◌, length}
 use Rattle.std.proofs.Common.{append_assoc, take, drop}
 use Rattle.std.specs.Prelude.{Option, Some, None, is_some}
-use Rattle.gtd_hours_loose.specs.declared.manner.Manner.{Manner}
+use Rattle.gtd_hours_options.specs.Readings.{HowRead}
 use Rattle.gtd_conditional_means.specs.declared.meaning.MeansRow.{MeansRow}
 use Rattle.gtd_conditional_values.specs.Pieces.{at_sign, front_spaces}
 use Rattle.gtd_conditional_parts.specs.Cuts.{first_part, part_bytes}
@@ -80,54 +80,54 @@ module _ (place : ℕ) (text : List ℕ) where
         have (at + front_spaces (first_part rest))
         (lacks_here at rest (at + front_spaces (first_part rest)) (first_has None none) refl)
 
-module _ (subject : Subject) (manner : Manner) (rows : List MeansRow) (place : ℕ) (text : List ℕ) where
+module _ (subject : Subject) (how : HowRead) (rows : List MeansRow) (place : ℕ) (text : List ℕ) where
   -- the parts before a place, with those from there on, are all
   abbrev pub GoesOn : List Part → ℕ → List ℕ → Type 0
   GoesOn before at rest =
-      (behind : List Part) → AreParts subject manner rows at rest behind
-      → AreParts subject manner rows place text (before ++ behind)
+      (behind : List Part) → AreParts subject how rows at rest behind
+      → AreParts subject how rows place text (before ++ behind)
 
   -- a fault from there on is the first
   abbrev pub FailsOn : ℕ → List ℕ → Type 0
   FailsOn at rest =
-      (why : ValueFault) → IsPartsFault subject manner rows at rest why → IsPartsFault subject manner rows place text why
+      (why : ValueFault) → IsPartsFault subject how rows at rest why → IsPartsFault subject how rows place text why
 
   pub goes_start : (before : List Part) → before ≡ [] → GoesOn before place text
-  goes_start before e = λ behind h. subst (λ (xs : List Part). AreParts subject manner rows place text (xs ++ behind)) (sym e) h
+  goes_start before e = λ behind h. subst (λ (xs : List Part). AreParts subject how rows place text (xs ++ behind)) (sym e) h
 
   module _ (at n : ℕ) (rest : List ℕ) (cut : n ≡ part_bytes rest) where
-    first : (part : Part) → IsPart subject manner rows at (take n rest) part
-        → IsPart subject manner rows at (first_part rest) part
-    first part is = subst (λ (k : ℕ). IsPart subject manner rows at (take k rest) part) cut is
+    first : (part : Part) → IsPart subject how rows at (take n rest) part
+        → IsPart subject how rows at (first_part rest) part
+    first part is = subst (λ (k : ℕ). IsPart subject how rows at (take k rest) part) cut is
 
     pub goes_more : (before after : List Part) (part : Part) → after ≡ before ++ part ∷ [] → n + 1 ≤ length rest
-        → IsPart subject manner rows at (take n rest) part → GoesOn before at rest → (left : List ℕ) → left ≡ drop (n + 1) rest
+        → IsPart subject how rows at (take n rest) part → GoesOn before at rest → (left : List ℕ) → left ≡ drop (n + 1) rest
         → GoesOn after (at + (n + 1)) left
     goes_more before after part put long is goes left same_left = λ behind g.
-        let h = subst (λ (l : List ℕ). AreParts subject manner rows (at + (n + 1)) l behind) same_left g in
+        let h = subst (λ (l : List ℕ). AreParts subject how rows (at + (n + 1)) l behind) same_left g in
         let same = ap (λ (xs : List Part). xs ++ behind) put ∙ append_assoc before (part ∷ []) behind in
         let room : part_bytes rest + 1 ≤ length rest = omega (arith, cut, long) in
-        let moved = subst (λ (k : ℕ). AreParts subject manner rows (at + (k + 1)) (drop (k + 1) rest) behind) cut h in
-        subst (λ (xs : List Part). AreParts subject manner rows place text xs) (sym same)
+        let moved = subst (λ (k : ℕ). AreParts subject how rows (at + (k + 1)) (drop (k + 1) rest) behind) cut h in
+        subst (λ (xs : List Part). AreParts subject how rows place text xs) (sym same)
         (goes (part ∷ behind) (more at rest part behind (part ∷ behind) room (first part is) moved refl))
 
-    pub fails_more : (part : Part) → n + 1 ≤ length rest → IsPart subject manner rows at (take n rest) part → FailsOn at rest
+    pub fails_more : (part : Part) → n + 1 ≤ length rest → IsPart subject how rows at (take n rest) part → FailsOn at rest
         → (left : List ℕ) → left ≡ drop (n + 1) rest → FailsOn (at + (n + 1)) left
     fails_more part long is fails left same_left = λ why g.
-        let h = subst (λ (l : List ℕ). IsPartsFault subject manner rows (at + (n + 1)) l why) same_left g in
+        let h = subst (λ (l : List ℕ). IsPartsFault subject how rows (at + (n + 1)) l why) same_left g in
         let room : part_bytes rest + 1 ≤ length rest = omega (arith, cut, long) in
-        let moved = subst (λ (k : ℕ). IsPartsFault subject manner rows (at + (k + 1)) (drop (k + 1) rest) why) cut h in
+        let moved = subst (λ (k : ℕ). IsPartsFault subject how rows (at + (k + 1)) (drop (k + 1) rest) why) cut h in
         fails why (later at rest why part room (first part is) moved)
 
     pub goes_last : (before after : List Part) (part : Part) → after ≡ before ++ part ∷ [] → length rest < n + 1
-        → IsPart subject manner rows at (take n rest) part → GoesOn before at rest → AreParts subject manner rows place text after
+        → IsPart subject how rows at (take n rest) part → GoesOn before at rest → AreParts subject how rows place text after
     goes_last before after part put short is goes =
         let end : length rest < part_bytes rest + 1 = omega (arith, cut, short) in
-        subst (λ (xs : List Part). AreParts subject manner rows place text xs) (sym put)
+        subst (λ (xs : List Part). AreParts subject how rows place text xs) (sym put)
         (goes (part ∷ []) (last at rest part (part ∷ []) end (first part is) refl))
 
-    pub fails_here : (why : UnreadValue) → IsPartStop subject manner rows at (take n rest) why → FailsOn at rest
-        → IsPartsStop subject manner rows place text why
+    pub fails_here : (why : UnreadValue) → IsPartStop subject how rows at (take n rest) why → FailsOn at rest
+        → IsPartsStop subject how rows place text why
     fails_here (stop.Fault why) is fails =
-        fails why (here at rest why (subst (λ (k : ℕ). IsPartStop subject manner rows at (take k rest) (stop.Fault why)) cut is))
+        fails why (here at rest why (subst (λ (k : ℕ). IsPartStop subject how rows at (take k rest) (stop.Fault why)) cut is))
     fails_here stop.NoMemory is fails = tt

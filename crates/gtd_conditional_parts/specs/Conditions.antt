@@ -1,6 +1,6 @@
 -- What the terms of a condition stand for, or the first fault of them.
 use Rattle.std.specs.Prelude.{◌≡◌, ◌<◌, ◌≤◌, ℕ, ◌+◌, List, [], ◌∷◌, length, Option, Some, None, Result, Ok, Err, ⊤}
-use Rattle.gtd_hours_loose.specs.declared.manner.Manner.{Manner}
+use Rattle.gtd_hours_options.specs.Readings.{HowRead}
 use Rattle.gtd_conditional_means.specs.declared.meaning.MeansRow.{MeansRow}
 use Rattle.gtd_conditional_values.specs.Pieces.{enclosed, front_spaces, trimmed}
 use Rattle.gtd_conditional_values.specs.ReadTerms.{IsTerm}
@@ -10,10 +10,10 @@ use Rattle.gtd_conditional_values.specs.declared.term.UnreadTerm.{UnreadTerm}
 use Rattle.gtd_conditional_values.specs.declared.term.UnreadTerm.TheVariants as unread
 use Rattle.gtd_conditional_parts.specs.Cuts.{after_term, first_term, term_bytes}
 
-module _ (manner : Manner) (rows : List MeansRow) where
+module _ (how : HowRead) (rows : List MeansRow) where
   -- the term that stands at a place, without the spaces around it, is read so
   abbrev pub IsTermAt : ℕ → List ℕ → Result Term UnreadTerm → Type 0
-  IsTermAt place text answer = IsTerm manner rows (place + front_spaces text) (trimmed text) answer
+  IsTermAt place text answer = IsTerm how rows (place + front_spaces text) (trimmed text) answer
 
   -- The text from a place on is these terms, one at least, each but the last with an `AND` after it.
   pub data AreTerms : ℕ → List ℕ → List Term → Type 0 where

@@ -1,6 +1,6 @@
 -- What the parts of a value say, or the first fault of them.
 use Rattle.std.specs.Prelude.{◌≡◌, ◌<◌, ◌≤◌, ℕ, ◌+◌, List, [], ◌∷◌, length, take, drop, Some, None, ⊤}
-use Rattle.gtd_hours_loose.specs.declared.manner.Manner.{Manner}
+use Rattle.gtd_hours_options.specs.Readings.{HowRead}
 use Rattle.gtd_conditional_means.specs.declared.meaning.MeansRow.{MeansRow}
 use Rattle.gtd_conditional_values.specs.Pieces.{at_sign, front_spaces, trimmed}
 use Rattle.gtd_conditional_values.specs.declared.term.TermFault.{TermFault}
@@ -30,13 +30,13 @@ abbrev pub unread_by : UnreadTerm → UnreadValue
 unread_by (unread.Fault bad) = stop.Fault (fault.Term bad)
 unread_by unread.NoMemory = stop.NoMemory
 
-module _ (subject : Subject) (manner : Manner) (rows : List MeansRow) where
+module _ (subject : Subject) (how : HowRead) (rows : List MeansRow) where
   -- The part that stands at a place says this: its name before the `@`, and its condition after it.
   pub record IsPart (place : ℕ) (text : List ℕ) (part : Part) : Type 0 where
     pub at : ℕ
     pub has : at_sign text ≡ Some at
     pub said : said_of subject rows (trimmed (take at text)) ≡ Some part.said
-    pub terms : AreConditions manner rows (place + (at + 1)) (drop (at + 1) text) part.terms.items
+    pub terms : AreConditions how rows (place + (at + 1)) (drop (at + 1) text) part.terms.items
 
   -- It has this fault first: its name says nothing, or else a term is at fault.
   pub data IsPartFault (place : ℕ) (text : List ℕ) (why : ValueFault) : Type 0 where
@@ -44,7 +44,7 @@ module _ (subject : Subject) (manner : Manner) (rows : List MeansRow) where
         → why ≡ fault.Value (place + front_spaces (take at text)) → IsPartFault place text why
     term : (at : ℕ) → (said : Said) → (bad : TermFault) → at_sign text ≡ Some at
         → said_of subject rows (trimmed (take at text)) ≡ Some said
-        → IsConditionsStop manner rows (place + (at + 1)) (drop (at + 1) text) (unread.Fault bad) → why ≡ fault.Term bad
+        → IsConditionsStop how rows (place + (at + 1)) (drop (at + 1) text) (unread.Fault bad) → why ≡ fault.Term bad
         → IsPartFault place text why
 
   abbrev pub IsPartStop : ℕ → List ℕ → UnreadValue → Type 0

@@ -1,6 +1,6 @@
 -- What a value says, or its first fault.
 use Rattle.std.specs.Prelude.{◌≡◌, ℕ, false, List, [], ◌∷◌, Some, None, ⊤}
-use Rattle.gtd_hours_loose.specs.declared.manner.Manner.{Manner}
+use Rattle.gtd_hours_options.specs.Readings.{HowRead}
 use Rattle.gtd_conditional_means.specs.declared.meaning.MeansRow.{MeansRow}
 use Rattle.gtd_conditional_values.specs.Nesting.{unnested}
 use Rattle.gtd_conditional_parts.specs.Cuts.{body}
@@ -14,18 +14,18 @@ use Rattle.gtd_conditional_parts.specs.declared.value.Value.{Value}
 use Rattle.gtd_conditional_parts.specs.declared.value.ValueFault.{ValueFault}
 use Rattle.gtd_conditional_parts.specs.declared.value.ValueFault.TheVariants as fault
 
--- ---- values of keys with conditions, whose hours are read in a manner
+-- ---- values of keys with conditions, whose hours are read so
 
-module _ (subject : Subject) (manner : Manner) (rows : List MeansRow) where
+module _ (subject : Subject) (how : HowRead) (rows : List MeansRow) where
   -- Parentheses and comments fit, and the value without one `;` at its end is these parts.
   pub record IsValue (bytes : List ℕ) (value : Value) : Type 0 where
     pub nests : unnested false 0 bytes ≡ None
-    pub parts : AreParts subject manner rows 0 (body bytes) value.parts.items
+    pub parts : AreParts subject how rows 0 (body bytes) value.parts.items
 
   -- The first fault of parts: that one has no `@`, and otherwise part by part of the names and the terms.
   pub data IsBodyFault (text : List ℕ) (why : ValueFault) : Type 0 where
     no_at : (place : ℕ) → LacksAt 0 text place → why ≡ fault.Part place → IsBodyFault text why
-    part : ((place : ℕ) → LacksAt 0 text place → ⊥) → IsPartsFault subject manner rows 0 text why → IsBodyFault text why
+    part : ((place : ℕ) → LacksAt 0 text place → ⊥) → IsPartsFault subject how rows 0 text why → IsBodyFault text why
 
   abbrev pub IsBodyStop : List ℕ → UnreadValue → Type 0
   IsBodyStop text (stop.Fault why) = IsBodyFault text why

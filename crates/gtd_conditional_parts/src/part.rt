@@ -3,6 +3,7 @@
 ghost use Rattle.std.specs.Prelude.{◌≡◌, ◌≤◌, ◌<◌, ◌+◌, ◌∷◌, ◌++◌, [], ℕ, length, None, Some, IfOk, IfErr, MatchOption, OnOk};
 ghost use Rattle.std.specs.Prelude.{is_some};
 ghost use Rattle.gtd_conditional_values.specs.Pieces.{at_sign};
+ghost use Rattle.gtd_hours_options.specs.Readings.{how_read};
 ghost use Rattle.gtd_conditional_parts.specs.Parts.{AreParts, IsPart, IsPartStop, IsPartsStop, LacksAt, unread_by};
 
 use crate::cuts::text_from;
@@ -11,14 +12,14 @@ use crate::terms::read_condition;
 use crate::value::{Part, UnreadValue, ValueFault};
 use gtd_conditional_means::Means;
 use gtd_conditional_values::{UnreadTerm, at_sign, front_spaces, part_length, trimmed};
-use gtd_hours_loose::Manner;
+use gtd_hours_options::HoursReading;
 use std::alloc::{AllocError, Global};
 
 // By what parts are read.
 #[derive(Clone, Copy)]
 struct Reading<'a> {
     means: &'a Means,
-    manner: Manner,
+    hours: HoursReading<'a>,
     subject: Subject,
 }
 
@@ -76,9 +77,9 @@ fn read_part(alloc: Global, by: Reading<'_>, place: usize, part: &[u8]) -> Resul
     requires fits { place + length part.now ≤ 18446744073709551615 }
     requires has { at_sign part.now ≡ None → ⊥ }
     ensures part { IfOk result (λ read.
-        IsPart by.entry.subject by.entry.manner by.entry.means.now.rows.items place part.now read) }
+        IsPart by.entry.subject (how_read by.entry.hours) by.entry.means.now.rows.items place part.now read) }
     ensures fault { IfErr result (λ why.
-        IsPartStop by.entry.subject by.entry.manner by.entry.means.now.rows.items place part.now why) }
+        IsPartStop by.entry.subject (how_read by.entry.hours) by.entry.means.now.rows.items place part.now why) }
 {
     let at = at_of(part);
     let name = &part[..at];
@@ -89,7 +90,7 @@ fn read_part(alloc: Global, by: Reading<'_>, place: usize, part: &[u8]) -> Resul
         Some(said) => match read_condition(
             alloc,
             by.means,
-            by.manner,
+            by.hours,
             place + (at + 1),
             text_from(part, at + 1),
         ) {
@@ -106,22 +107,22 @@ fn push_part(parts: &mut Vec<Part>, part: Part) -> Result<(), AllocError>
     Ok(())
 }
 
-/// The parts of a text, each of which has an `@`, whose hours are read in this manner; or why they are not read. `NoMemory` is
-/// answered only if memory was refused.
+/// The parts of a text, each of which has an `@`, whose hours are read so; or why they are not read. `NoMemory` is answered only
+/// if memory was refused.
 pub(crate) fn read_parts(
     alloc: Global,
     means: &Means,
-    manner: Manner,
+    reading: HoursReading<'_>,
     subject: Subject,
     text: &[u8],
 ) -> Result<Vec<Part>, UnreadValue>
     requires have { (place : ℕ) → LacksAt 0 text.now place → ⊥ }
-    ensures parts { IfOk result (λ parts. AreParts subject manner means.now.rows.items 0 text.now parts.items) }
-    ensures fault { IfErr result (λ why. IsPartsStop subject manner means.now.rows.items 0 text.now why) }
+    ensures parts { IfOk result (λ parts. AreParts subject (how_read reading.entry) means.now.rows.items 0 text.now parts.items) }
+    ensures fault { IfErr result (λ why. IsPartsStop subject (how_read reading.entry) means.now.rows.items 0 text.now why) }
 {
     let by = Reading {
         means,
-        manner,
+        hours: reading,
         subject,
     };
     let mut parts = Vec::new(alloc);

@@ -3,6 +3,7 @@
 ghost use Rattle.std.specs.Prelude.{◌≡◌, ◌≤◌, ◌∷◌, [], length, IfOk, IfErr};
 ghost use Rattle.std.specs.List.{suffix_len};
 ghost use Rattle.gtd_conditional_values.specs.Pieces.{is_space};
+ghost use Rattle.gtd_hours_options.specs.Readings.{how_read};
 ghost use Rattle.gtd_conditional_parts.specs.Cuts.{body, ends_with_semicolon, filled};
 ghost use Rattle.gtd_conditional_parts.specs.Parts.{AreParts};
 ghost use Rattle.gtd_conditional_parts.specs.Values.{IsBodyStop, IsPlain, IsPlainStop, IsValue, IsValueStop};
@@ -12,7 +13,7 @@ use crate::said::{Said, Subject, said_of};
 use crate::value::{Part, UnreadValue, Value, ValueFault};
 use gtd_conditional_means::Means;
 use gtd_conditional_values::first_unnested;
-use gtd_hours_loose::Manner;
+use gtd_hours_options::HoursReading;
 use std::alloc::{AllocError, Global};
 
 fn end_spaces(text: &[u8]) -> usize
@@ -53,23 +54,24 @@ fn body(value: &[u8]) -> &[u8]
 fn read_body(
     alloc: Global,
     means: &Means,
-    manner: Manner,
+    reading: HoursReading<'_>,
     subject: Subject,
     text: &[u8],
 ) -> Result<Value, UnreadValue>
-    ensures value { IfOk result (λ read. AreParts subject manner means.now.rows.items 0 text.now read.parts.items) }
-    ensures fault { IfErr result (λ why. IsBodyStop subject manner means.now.rows.items text.now why) }
+    ensures value { IfOk result (λ read.
+        AreParts subject (how_read reading.entry) means.now.rows.items 0 text.now read.parts.items) }
+    ensures fault { IfErr result (λ why. IsBodyStop subject (how_read reading.entry) means.now.rows.items text.now why) }
 {
     match first_without_at(text) {
         Some(place) => Err(UnreadValue::Fault(ValueFault::Part { place })),
-        None => match read_parts(alloc, means, manner, subject, text) {
+        None => match read_parts(alloc, means, reading, subject, text) {
             Ok(parts) => Ok(Value { parts }),
             Err(why) => Err(why),
         },
     }
 }
 
-/// What a value with conditions says, if hours are read in this manner, or why it is not read.
+/// What a value with conditions says, if hours are read so, or why it is not read.
 ///
 /// The first fault is of all that is cut: `Part`, of parentheses and comments, and then of the first part without `@`. Otherwise
 /// it is that of the first part that has one: `Value` of its name, and then that of its first term that is at fault. One `;` at
@@ -77,16 +79,16 @@ fn read_body(
 pub fn read_value(
     alloc: Global,
     means: &Means,
-    manner: Manner,
+    reading: HoursReading<'_>,
     subject: Subject,
     value: &[u8],
 ) -> Result<Value, UnreadValue>
-    ensures value { IfOk result (λ read. IsValue subject manner means.now.rows.items value.now read) }
-    ensures fault { IfErr result (λ why. IsValueStop subject manner means.now.rows.items value.now why) }
+    ensures value { IfOk result (λ read. IsValue subject (how_read reading.entry) means.now.rows.items value.now read) }
+    ensures fault { IfErr result (λ why. IsValueStop subject (how_read reading.entry) means.now.rows.items value.now why) }
 {
     match first_unnested(value) {
         Some(place) => Err(UnreadValue::Fault(ValueFault::Part { place })),
-        None => read_body(alloc, means, manner, subject, body(value)),
+        None => read_body(alloc, means, reading, subject, body(value)),
     }
 }
 

@@ -1,6 +1,7 @@
 //! The terms of a condition.
 
 ghost use Rattle.std.specs.Prelude.{◌≡◌, ◌≤◌, ◌+◌, ◌∷◌, ◌++◌, [], length, IfOk, IfErr, OnOk};
+ghost use Rattle.gtd_hours_options.specs.Readings.{how_read};
 ghost use Rattle.gtd_conditional_parts.specs.Conditions.{AreConditions, AreTerms, IsConditionsStop, IsTermAt, IsTermsStop};
 
 use crate::cuts::text_from;
@@ -8,24 +9,24 @@ use gtd_conditional_means::Means;
 use gtd_conditional_values::{
     Term, UnreadTerm, enclosed, front_spaces, read_term, term_length, trimmed,
 };
-use gtd_hours_loose::Manner;
+use gtd_hours_options::HoursReading;
 use std::alloc::{AllocError, Global};
 
 // What the term that stands at a place is.
 fn read_term_at(
     alloc: Global,
     means: &Means,
-    manner: Manner,
+    reading: HoursReading<'_>,
     place: usize,
     text: &[u8],
 ) -> Result<Term, UnreadTerm>
     requires fits { place + length text.now ≤ 18446744073709551615 }
-    ensures { IsTermAt manner means.now.rows.items place text.now result }
+    ensures { IsTermAt (how_read reading.entry) means.now.rows.items place text.now result }
 {
     read_term(
         alloc,
         means,
-        manner,
+        reading,
         place + front_spaces(text),
         trimmed(text),
     )
@@ -42,20 +43,20 @@ fn push_term(terms: &mut Vec<Term>, term: Term) -> Result<(), AllocError>
 fn read_terms(
     alloc: Global,
     means: &Means,
-    manner: Manner,
+    reading: HoursReading<'_>,
     place: usize,
     text: &[u8],
 ) -> Result<Vec<Term>, UnreadTerm>
     requires fits { place + length text.now ≤ 18446744073709551615 }
-    ensures terms { IfOk result (λ terms. AreTerms manner means.now.rows.items place text.now terms.items) }
-    ensures fault { IfErr result (λ why. IsTermsStop manner means.now.rows.items place text.now why) }
+    ensures terms { IfOk result (λ terms. AreTerms (how_read reading.entry) means.now.rows.items place text.now terms.items) }
+    ensures fault { IfErr result (λ why. IsTermsStop (how_read reading.entry) means.now.rows.items place text.now why) }
 {
     let mut terms = Vec::new(alloc);
     let mut at = place;
     let mut rest = text;
     loop {
         let bytes = term_length(rest);
-        let term = match read_term_at(alloc, means, manner, at, &rest[..bytes]) {
+        let term = match read_term_at(alloc, means, reading, at, &rest[..bytes]) {
             Ok(term) => term,
             Err(why) => return Err(why),
         };
@@ -68,21 +69,28 @@ fn read_terms(
     }
 }
 
-/// The terms of a condition that begins at a place of a value, whose hours are read in this manner; or why they are not read.
+/// The terms of a condition that begins at a place of a value, whose hours are read so; or why they are not read.
 /// `NoMemory` is answered only if memory was refused.
 pub(crate) fn read_condition(
     alloc: Global,
     means: &Means,
-    manner: Manner,
+    reading: HoursReading<'_>,
     place: usize,
     text: &[u8],
 ) -> Result<Vec<Term>, UnreadTerm>
     requires fits { place + length text.now ≤ 18446744073709551615 }
-    ensures terms { IfOk result (λ terms. AreConditions manner means.now.rows.items place text.now terms.items) }
-    ensures fault { IfErr result (λ why. IsConditionsStop manner means.now.rows.items place text.now why) }
+    ensures terms { IfOk result (λ terms.
+        AreConditions (how_read reading.entry) means.now.rows.items place text.now terms.items) }
+    ensures fault { IfErr result (λ why. IsConditionsStop (how_read reading.entry) means.now.rows.items place text.now why) }
 {
     match enclosed(trimmed(text)) {
-        Some(inside) => read_terms(alloc, means, manner, place + front_spaces(text) + 1, inside),
-        None => read_terms(alloc, means, manner, place, text),
+        Some(inside) => read_terms(
+            alloc,
+            means,
+            reading,
+            place + front_spaces(text) + 1,
+            inside,
+        ),
+        None => read_terms(alloc, means, reading, place, text),
     }
 }

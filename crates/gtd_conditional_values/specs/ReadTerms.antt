@@ -1,10 +1,8 @@
 -- What a term at a place of a value stands for, or its fault. Of a text that is read while memory was refused nothing is said.
 use Rattle.std.specs.Prelude.{◌≡◌, ℕ, ◌+◌, Bool, true, false, List, Option, Some, None, Result, Ok, Err, ⊤}
-use Rattle.gtd_hours_loose.specs.Manners.{IsFaultIn, IsReadingIn}
-use Rattle.gtd_hours_loose.specs.declared.manner.Manner.{Manner}
-use Rattle.gtd_hours_loose.specs.declared.reader.LooseFault.{LooseFault}
-use Rattle.gtd_hours_loose.specs.declared.reader.LooseFault.TheVariants as loose
-use Rattle.gtd_hours_loose.specs.declared.reader.LooseHours.{LooseHours}
+use Rattle.gtd_hours_known.specs.declared.known.KnownHours.{KnownHours}
+use Rattle.gtd_hours_options.specs.Readings.{HasFault, HowRead, Reads}
+use Rattle.gtd_hours_options.specs.declared.fault.OptionsFault.{OptionsFault}
 use Rattle.gtd_conditional_means.specs.Meanings.{types_of}
 use Rattle.gtd_conditional_means.specs.Names.{is_there}
 use Rattle.gtd_conditional_means.specs.declared.meaning.MeansKind.TheVariants.{Condition}
@@ -25,31 +23,27 @@ IsName name (term.Named kept) = kept.items ≡ name
 IsName name (term.Hours given) = ⊥
 
 -- it is the hours that are read of a text that begins at this place, or these have this first fault
-abbrev pub IsHours : Manner → ℕ → List ℕ → Term → Type 0
-IsHours manner place bytes (term.Named kept) = ⊥
-IsHours manner place bytes (term.Hours given) =
-    (read : LooseHours) × IsReadingIn manner bytes read × AreHoursAt place bytes read given
+abbrev pub IsHours : HowRead → ℕ → List ℕ → Term → Type 0
+IsHours how place bytes (term.Named kept) = ⊥
+IsHours how place bytes (term.Hours given) =
+    (read : KnownHours) × Reads how bytes read × AreHoursAt place bytes how.options.known.years read given
 
-abbrev pub fault_at : ℕ → LooseFault → TermFault
-fault_at place (loose.Hours why) = fault.Hours place why
-fault_at place (loose.Ambiguous at) = fault.Ambiguous place at
-
-abbrev pub IsHoursFault : Manner → ℕ → List ℕ → TermFault → Type 0
-IsHoursFault manner place bytes bad = (why : LooseFault) × IsFaultIn manner bytes why × (bad ≡ fault_at place why)
+abbrev pub IsHoursFault : HowRead → ℕ → List ℕ → TermFault → Type 0
+IsHoursFault how place bytes bad = (why : OptionsFault) × HasFault how bytes why × (bad ≡ fault.Hours place why)
 
 -- the bytes from this place on are read as hours
-abbrev pub IsHoursTerm : Manner → ℕ → List ℕ → Result Term UnreadTerm → Type 0
-IsHoursTerm manner place bytes (Ok found) = IsHours manner place bytes found
-IsHoursTerm manner place bytes (Err (unread.Fault why)) = IsHoursFault manner place bytes why
-IsHoursTerm manner place bytes (Err unread.NoMemory) = ⊤
+abbrev pub IsHoursTerm : HowRead → ℕ → List ℕ → Result Term UnreadTerm → Type 0
+IsHoursTerm how place bytes (Ok found) = IsHours how place bytes found
+IsHoursTerm how place bytes (Err (unread.Fault why)) = IsHoursFault how place bytes why
+IsHoursTerm how place bytes (Err unread.NoMemory) = ⊤
 
 -- what the parentheses of a term enclose is read as hours, one place later, and otherwise the whole term
-abbrev pub IsHoursIn : Manner → ℕ → List ℕ → Option (List ℕ) → Result Term UnreadTerm → Type 0
-IsHoursIn manner place bytes (Some inside) answer = IsHoursTerm manner (place + 1) inside answer
-IsHoursIn manner place bytes None answer = IsHoursTerm manner place bytes answer
+abbrev pub IsHoursIn : HowRead → ℕ → List ℕ → Option (List ℕ) → Result Term UnreadTerm → Type 0
+IsHoursIn how place bytes (Some inside) answer = IsHoursTerm how (place + 1) inside answer
+IsHoursIn how place bytes None answer = IsHoursTerm how place bytes answer
 
-abbrev pub IsHoursOf : Manner → ℕ → List ℕ → Result Term UnreadTerm → Type 0
-IsHoursOf manner place bytes answer = IsHoursIn manner place bytes (enclosed bytes) answer
+abbrev pub IsHoursOf : HowRead → ℕ → List ℕ → Result Term UnreadTerm → Type 0
+IsHoursOf how place bytes answer = IsHoursIn how place bytes (enclosed bytes) answer
 
 -- the table has a condition of this name, or there is none
 abbrev pub IsNamedBy : Bool → ℕ → List ℕ → Result Term UnreadTerm → Type 0
@@ -62,10 +56,10 @@ IsNamedBy false place name (Err (unread.Fault why)) = why ≡ fault.Condition pl
 abbrev pub IsNamed : List MeansRow → ℕ → List ℕ → Result Term UnreadTerm → Type 0
 IsNamed rows place name answer = IsNamedBy (is_there (types_of Condition name rows)) place name answer
 
--- the term is looked up by its name, if it has one, and otherwise read as hours in this manner
-abbrev pub IsTermBy : Manner → List MeansRow → ℕ → List ℕ → Option (List ℕ) → Result Term UnreadTerm → Type 0
-IsTermBy manner rows place bytes (Some name) answer = IsNamed rows place name answer
-IsTermBy manner rows place bytes None answer = IsHoursOf manner place bytes answer
+-- the term is looked up by its name, if it has one, and otherwise read as hours so
+abbrev pub IsTermBy : HowRead → List MeansRow → ℕ → List ℕ → Option (List ℕ) → Result Term UnreadTerm → Type 0
+IsTermBy how rows place bytes (Some name) answer = IsNamed rows place name answer
+IsTermBy how rows place bytes None answer = IsHoursOf how place bytes answer
 
-abbrev pub IsTerm : Manner → List MeansRow → ℕ → List ℕ → Result Term UnreadTerm → Type 0
-IsTerm manner rows place bytes answer = IsTermBy manner rows place bytes (name_of rows bytes) answer
+abbrev pub IsTerm : HowRead → List MeansRow → ℕ → List ℕ → Result Term UnreadTerm → Type 0
+IsTerm how rows place bytes answer = IsTermBy how rows place bytes (name_of rows bytes) answer

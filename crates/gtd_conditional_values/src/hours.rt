@@ -4,8 +4,9 @@ ghost use Rattle.std.specs.Prelude.{◌≡◌, IfOk, map};
 ghost use Rattle.gtd_conditional_values.specs.TermHours as spec;
 
 use gtd_hours::Hours;
-use gtd_hours_loose::LooseHours;
-use gtd_hours_warnings::{Warning, warnings_of};
+use gtd_hours_holidays::KnownYears;
+use gtd_hours_known::KnownHours;
+use gtd_hours_warnings::{Warning, warnings_with};
 use std::alloc::{AllocError, Global};
 
 /// Hours in a condition.
@@ -32,16 +33,18 @@ fn placed(alloc: Global, start: usize, warnings: Vec<Warning>) -> Result<Vec<War
     Ok(found)
 }
 
-/// The hours that were read of a text that begins at this place of a value, with its warnings.
+/// The hours that were read of a text that begins at this place of a value, with its warnings, if holidays are known in these
+/// years.
 pub(crate) fn hours_at(
     alloc: Global,
     start: usize,
     text: &[u8],
-    read: LooseHours,
+    read: KnownHours,
+    years: Option<KnownYears>,
 ) -> Result<TermHours, AllocError>
-    ensures { IfOk result (spec.AreHoursAt start text.now read) }
+    ensures { IfOk result (spec.AreHoursAt start text.now years read) }
 {
-    let found = warnings_of(alloc, text, &read)?;
+    let found = warnings_with(alloc, text, &read, years)?;
     let warnings = placed(alloc, start, found)?;
     Ok(TermHours {
         hours: read.hours,

@@ -1,14 +1,14 @@
 //! What a term stands for.
 
 ghost use Rattle.std.specs.Prelude.{◌≡◌, ◌≤◌, ◌+◌, length};
-ghost use Rattle.gtd_conditional_values.specs.ReadTerms.{IsHoursOf, IsHoursTerm, IsNamed, IsTerm, fault_at};
+ghost use Rattle.gtd_hours_options.specs.Readings.{how_read};
+ghost use Rattle.gtd_conditional_values.specs.ReadTerms.{IsHoursOf, IsHoursTerm, IsNamed, IsTerm};
 
 use crate::hours::{TermHours, hours_at};
 use crate::names::{condition_name, has_condition};
 use crate::pieces::enclosed;
 use gtd_conditional_means::Means;
-use gtd_hours_grammar::HoursFault;
-use gtd_hours_loose::{LooseFault, LooseReadFault, Manner, read_hours_in};
+use gtd_hours_options::{HoursReading, OptionsFault, OptionsReadFault, read_hours_with_in};
 use std::alloc::{AllocError, Global};
 
 /// What a term of a condition stands for.
@@ -33,14 +33,7 @@ pub enum TermFault {
         /// The place at which the hours begin.
         start: usize,
         /// Their fault, whose place is counted from there.
-        fault: HoursFault,
-    },
-    /// People read the hours in two ways.
-    Ambiguous {
-        /// The place at which the hours begin.
-        start: usize,
-        /// The place of what is read in two ways, counted from there.
-        place: usize,
+        fault: OptionsFault,
     },
 }
 
@@ -64,48 +57,40 @@ impl From<AllocError> for UnreadTerm {
     }
 }
 
-// The fault of hours that begin at this place.
-fn fault_at(start: usize, fault: LooseFault) -> TermFault
-    ensures { result ≡ fault_at start fault }
-{
-    match fault {
-        LooseFault::Hours(fault) => TermFault::Hours { start, fault },
-        LooseFault::Ambiguous { place } => TermFault::Ambiguous { start, place },
-    }
-}
-
 // The hours of a text that begins at this place.
 fn read_hours_at(
     alloc: Global,
-    manner: Manner,
+    reading: HoursReading<'_>,
     start: usize,
     text: &[u8],
 ) -> Result<Term, UnreadTerm>
-    ensures { IsHoursTerm manner start text.now result }
+    ensures { IsHoursTerm (how_read reading.entry) start text.now result }
 {
-    match read_hours_in(alloc, text, manner) {
-        Ok(read) => match hours_at(alloc, start, text, read) {
+    match read_hours_with_in(alloc, text, reading.manner, reading.options) {
+        Ok(read) => match hours_at(alloc, start, text, read, reading.options.known.years) {
             Ok(hours) => Ok(Term::Hours(hours)),
             Err(_) => Err(UnreadTerm::NoMemory),
         },
-        Err(LooseReadFault::Fault(fault)) => Err(UnreadTerm::Fault(fault_at(start, fault))),
-        Err(LooseReadFault::NoMemory) => Err(UnreadTerm::NoMemory),
+        Err(OptionsReadFault::Fault(fault)) => {
+            Err(UnreadTerm::Fault(TermFault::Hours { start, fault }))
+        }
+        Err(OptionsReadFault::NoMemory) => Err(UnreadTerm::NoMemory),
     }
 }
 
 // The hours of a term, which may stand in parentheses.
 fn read_hours_of(
     alloc: Global,
-    manner: Manner,
+    reading: HoursReading<'_>,
     place: usize,
     term: &[u8],
 ) -> Result<Term, UnreadTerm>
     requires { place + length term.now ≤ 18446744073709551615 }
-    ensures { IsHoursOf manner place term.now result }
+    ensures { IsHoursOf (how_read reading.entry) place term.now result }
 {
     match enclosed(term) {
-        Some(inside) => read_hours_at(alloc, manner, place + 1, inside),
-        None => read_hours_at(alloc, manner, place, term),
+        Some(inside) => read_hours_at(alloc, reading, place + 1, inside),
+        None => read_hours_at(alloc, reading, place, term),
     }
 }
 
@@ -119,20 +104,20 @@ fn named(means: &Means, place: usize, name: Vec<u8>) -> Result<Term, UnreadTerm>
     Ok(Term::Named(name))
 }
 
-/// What the term at this place of a value stands for, without spaces around it, if hours are read in this manner; or its fault.
+/// What the term at this place of a value stands for, without spaces around it, if hours are read so; or its fault.
 /// `NoMemory` is answered only if memory was refused.
 pub fn read_term(
     alloc: Global,
     means: &Means,
-    manner: Manner,
+    reading: HoursReading<'_>,
     place: usize,
     term: &[u8],
 ) -> Result<Term, UnreadTerm>
     requires fits { place + length term.now ≤ 18446744073709551615 }
-    ensures term { IsTerm manner means.now.rows.items place term.now result }
+    ensures term { IsTerm (how_read reading.entry) means.now.rows.items place term.now result }
 {
     match condition_name(alloc, means, term)? {
         Some(name) => named(means, place, name),
-        None => read_hours_of(alloc, manner, place, term),
+        None => read_hours_of(alloc, reading, place, term),
     }
 }

@@ -1,17 +1,18 @@
 -- The rows of a file's elements are few, since its rows are; and its warnings are those of its sound tags.
 use Rattle.std.proofs.Common.{rules}
+use Rattle.gtd_hours_options.specs.Readings.{how_read}
 use Rattle.gtd_conditional_elements.specs.File.{AreOfFile}
 use Rattle.gtd_conditional_elements.proofs.Bounds.{few_of_file}
 use Rattle.gtd_conditional_elements.proofs.elements.read_elements.Goals as goal
 
 pub returns-clause-few : goal.returns-clause-few
 returns-clause-few c =
-    few_of_file c.args.manner c.args.means.now.rows.items c.args.bytes.now c.in_ok-found.found.rows.items
+    few_of_file (how_read c.args.reading) c.args.means.now.rows.items c.args.bytes.now c.in_ok-found.found.rows.items
     c.in_ok-faults.faults.items (search rules)
 
 pub returns-clause-warned : goal.returns-clause-warned
 returns-clause-warned c =
-    let found : AreOfFile c.args.manner c.args.means.now.rows.items c.args.bytes.now c.in_ok-found.found.rows.items
+    let found : AreOfFile (how_read c.args.reading) c.args.means.now.rows.items c.args.bytes.now c.in_ok-found.found.rows.items
     c.in_ok-faults.faults.items = record {
       tags = c.in_ok-file.file.tags.items;
       of_rows = c.in_ok-file.file.faults.items;

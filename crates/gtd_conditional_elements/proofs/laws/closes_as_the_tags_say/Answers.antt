@@ -4,6 +4,6 @@ use Rattle.gtd_conditional_elements.proofs.laws.closes_as_the_tags_say.Goals as 
 
 pub returns : goal.returns
 returns c = record {
-  closes = λ manner means bytes rows file element direction t s vehicle.
-      file_closes means direction t s vehicle element manner bytes rows file;
+  closes = λ how means bytes rows file element direction t s vehicle.
+      file_closes means direction t s vehicle element how bytes rows file;
 }

@@ -2,6 +2,7 @@
 use Rattle.std.proofs.Common.{◌≡◌, ◌∙◌, ap, sym, ◌+◌, [], ◌∷◌, ◌++◌, take}
 use Rattle.std.proofs.lemmas.List.{take_more}
 use Rattle.gtd_conditional_tags.specs.declared.row.Tag.{Tag}
+use Rattle.gtd_hours_options.specs.Readings.{how_read}
 use Rattle.gtd_conditional_elements.proofs.ValueFacts.{values_more}
 use Rattle.gtd_conditional_elements.proofs.values.read_values.Goals as goal
 
@@ -14,6 +15,6 @@ loop-tag-preserved c =
     let next : take (at + 1) tags ≡ take at tags ++ tag ∷ [] =
     take_more tags at tag c.loop-tag-test.true ∙ ap (λ (x : Tag). take at tags ++ x ∷ []) (sym c.tag-item.is) in
     rw (next, added.2, added.3)
-    (values_more c.args.manner c.args.means.now.rows.items (take at tags) tag c.loop-tag.found.sound.items
+    (values_more (how_read c.args.reading) c.args.means.now.rows.items (take at tags) tag c.loop-tag.found.sound.items
     c.loop-tag.found.faults.items
     added.0 added.1 c.loop-tag.invariant)

@@ -4,8 +4,8 @@ use Rattle.gtd_conditional_file.proofs.laws.restrictions_close_as_the_tags_say.G
 
 pub returns : goal.returns
 returns c = record {
-  closes = λ manner table bytes rows found file are element direction t s vehicle.
+  closes = λ how table bytes rows found file are element direction t s vehicle.
       let one = some_closes element direction t s vehicle rows found are in
-      let other = c.closes_as_the_tags_say.ensures.closes manner table bytes rows file element direction t s vehicle in
+      let other = c.closes_as_the_tags_say.ensures.closes how table bytes rows file element direction t s vehicle in
       ((λ h. other.0 (one.0 h)), (λ h. one.1 (other.1 h)));
 }

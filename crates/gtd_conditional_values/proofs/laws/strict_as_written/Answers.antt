@@ -1,9 +1,6 @@
--- A text that is read strictly has no strict form of its own, and nothing in it is read in two ways.
+-- A text that is read strictly has no strict form of its own.
 use Rattle.gtd_conditional_values.proofs.StrictFacts.{strict_fault, strict_hours}
 use Rattle.gtd_conditional_values.proofs.laws.strict_as_written.Goals as goal
 
 pub returns : goal.returns
-returns c = record {
-  hours = strict_hours;
-  fault = λ place text bad is. strict_fault place text bad is.0 is.1 is.2;
-}
+returns c = record { hours = strict_hours; fault = strict_fault }

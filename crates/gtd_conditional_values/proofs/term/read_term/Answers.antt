@@ -2,6 +2,7 @@
 use Rattle.std.proofs.Common.{◌≡◌, ◌∙◌, ap, sym, subst}
 use Rattle.std.specs.Prelude.{Result, Err}
 use Rattle.std.proofs.lemmas.Result.{err_from_is_err_and}
+use Rattle.gtd_hours_options.specs.Readings.{how_read}
 use Rattle.gtd_conditional_values.specs.ReadTerms.{IsTerm}
 use Rattle.gtd_conditional_values.specs.declared.term.Term.{Term}
 use Rattle.gtd_conditional_values.specs.declared.term.UnreadTerm.{UnreadTerm}
@@ -16,6 +17,6 @@ returns-in_err-name c =
     record {
       term =
           subst (λ (answer : Result Term UnreadTerm).
-          IsTerm c.args.manner c.args.means.now.rows.items c.args.place c.args.term.now answer)
-          (sym is) (no_term c.args.manner c.args.means.now.rows.items c.args.place c.args.term.now);
+          IsTerm (how_read c.args.reading) c.args.means.now.rows.items c.args.place c.args.term.now answer)
+          (sym is) (no_term (how_read c.args.reading) c.args.means.now.rows.items c.args.place c.args.term.now);
     }
