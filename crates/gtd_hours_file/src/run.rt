@@ -20,6 +20,7 @@ use crate::untranslated::Untranslated;
 use crate::warnings::warnings_of;
 use gtd_core::limits::MOST_FILE_BYTES;
 use gtd_devices::{Input, InputFault, Output, read_whole};
+use gtd_hours_options::HoursReading;
 use gtd_report::{Progress, Stop};
 use std::alloc::Global;
 
