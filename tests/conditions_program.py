@@ -4,8 +4,9 @@
 First come the worked rows and files of conditional/, its tables of means at fault, and the hundred values of
 examples/conditions; then random files of tags, of which some rows are damaged, read strictly or loosely. The record file is
 that of the model, byte for byte, with the warnings of its hours by the models of loose texts and of hidden hours; or each fault
-is listed with its row, line and place, and none is missing. Here `--strict` is of hours alone. Run it after `rt ci`, which
-builds the program.
+is listed with its row, line and place, and none is missing. Here `--strict` is of hours alone. Then come random tags whose hours
+have holidays, moments and comments, with tables, years and clock times, or without them: the rows close when the tags do, at
+drawn seconds. Run it after `rt ci`, which builds the program.
 
 Usage: tests/conditions_program.py [COUNT [SEED]]
 """
@@ -17,11 +18,18 @@ import re
 import subprocess
 import sys
 import tempfile
+from typing import NamedTuple
 
 import conditional_model
 import hidden_model
+import holidays_model
 import hours_model
+import known_model
+import known_program
 import loose_model
+import moments as moments_tests
+import wider_model
+import wider_program
 from checks import Checks
 
 HERE = os.path.dirname(os.path.abspath(__file__))
@@ -30,22 +38,66 @@ PROGRAM = os.environ.get("GTDESK", os.path.join(HERE, "..", "crates", "gtdesk", 
 BYTES = "()@;,:\"0x><= \u00e9"
 
 
+class Given(NamedTuple):
+    """How hours are read, and with which options: a table of holidays, whose file is at a path, years, and clock times."""
+    strict_hours: bool = False
+    german: bool = False
+    table: tuple = None
+    path: str = ""
+    years: str = ""
+    clocks: dict = {}
+    # All else of a value is read the same.
+    strict: bool = False
+
+    @property
+    def words(self):
+        """The options as words of the command."""
+        return [*(["--strict"] if self.strict_hours else []), *(["--day-names", "de"] if self.german else []),
+                *(["--holidays", self.path] if self.path else []), *(["--years", self.years] if self.years else []),
+                *wider_program.words_of(self.clocks)]
+
+
+class Uncovered(conditional_model.Fault):
+    """A day that the table does not cover, at a place in the value."""
+
+    def __str__(self):
+        return f"{super().__str__()}: {holidays_model.date(self.args[2])}"
+
+
+def warnings_of(data, rules, options):
+    """The warnings of hours that have these rules; of rules that hide hours only those of plain ones."""
+    try:
+        return [f"{kind} at {at}" + (f": {form}" if form else "") for kind, at, form in hidden_model.warnings(data, options.german)]
+    except hours_model.Fault:
+        return wider_model.warnings(data, rules, known_program.pair_of(options.years))
+
+
 def read_hours(text, place, options, warnings):
     """Hours as a term, with the warnings of them."""
-    given = text.encode("latin-1")
+    data = text.encode("latin-1")
+
+    def reader(strict):
+        return wider_model.read(strict, options.table, known_program.pair_of(options.years), options.clocks)
+
     try:
-        rules = hours_model.read(given) if options.strict_hours else loose_model.read(given, options.german)[0]
+        rules = reader(data) if options.strict_hours else loose_model.read(data, options.german, reader)[0]
     except hours_model.Fault as fault:
         raise conditional_model.Fault(f"Hours {fault.args[0]}", place + fault.args[1]) from None
-    for kind, at, form in hidden_model.warnings(given, options.german):
-        warnings.append(f"warning Hours {kind} at {place + at}" + (f": {form}" if form else ""))
+    except known_model.Uncovered as fault:
+        raise Uncovered("Hours Uncovered", place + fault.args[0], fault.args[1]) from None
+    for warning in warnings_of(data, rules, options):
+        found = re.fullmatch(r"([A-Za-z]+) at ([0-9]+)(.*)", warning, re.DOTALL)
+        warnings.append(f"warning Hours {found[1]} at {place + int(found[2])}{found[3]}")
     return conditional_model.Term(None, rules, [], text)
 
 
-conditional_model.read_hours = read_hours
-# How hours are read, and the options of the command. All else of a value is read the same.
-LOOSE, STRICT, GERMAN = (conditional_model.Options(None, False, *how) for how in ((), (True, False), (False, True)))
-WORDS = {LOOSE: (), STRICT: ("--strict",), GERMAN: ("--day-names", "de")}
+def holds(term, vehicle, second):
+    """Whether a term holds for a type at a second."""
+    return vehicle in term.types if term.types is not None else wider_model.state(term.rules, second) is True
+
+
+conditional_model.read_hours, conditional_model.holds = read_hours, holds
+LOOSE, STRICT, GERMAN = Given(), Given(strict_hours=True), Given(german=True)
 
 
 def run(tags, means, room, options=LOOSE):
@@ -53,7 +105,7 @@ def run(tags, means, room, options=LOOSE):
     for name, data in (("tags.csv", tags), ("means.csv", means)):
         with open(os.path.join(room, name), "wb") as file:
             file.write(data)
-    done = subprocess.run([PROGRAM, "conditions", *WORDS[options], "tags.csv", "means.csv"], cwd=room, capture_output=True,
+    done = subprocess.run([PROGRAM, "conditions", *options.words, "tags.csv", "means.csv"], cwd=room, capture_output=True,
                           check=False)
     return done.returncode, done.stdout.decode(), done.stderr.decode("latin-1").splitlines()
 
@@ -90,7 +142,7 @@ def compare(check, data, means, room, options=LOOSE):
     right = told == numbered(lines) if same_lines else [what for _, what in told] == lines
     alone = faults or len(errors) == len(told)
     check(status == bool(faults) and output == wanted and right and alone,
-          f"{WORDS[options]} {data}: {status} {errors} {output!r}, not {lines} {wanted!r}")
+          f"{options.words} {data}: {status} {errors} {output!r}, not {lines} {wanted!r}")
 
 
 def written(rows):
@@ -100,12 +152,32 @@ def written(rows):
     return text.getvalue().encode("latin-1")
 
 
-def worked(check, means, room):
-    """The worked rows and files, but for those that need an option of the table of holidays."""
+def compare_meaning(check, tags, means, room, options, chance):
+    """Compares the program with the model on the tags of one element: faults and warnings, and when the rows close at seconds."""
+    table, bytes_of_means = means
+    says, _, warnings, faults = conditional_model.read_tags(tags, table, options)
+    status, output, errors = run(written([["element", "key", "value"], *([7, *tag] for tag in tags)]), bytes_of_means, room, options)
+    told = [line for _, line in heads(errors, "tags.csv") if " warning Hours Hides " not in line]
+    wanted = faults or [line for line in of_hours(warnings) if " warning Hours Hides " not in line]
+    if not faults and status == 1 and all(line.endswith(": TooMany at 0") for line in told):
+        return
+    rows = [row[1:] for row in csv.reader(io.StringIO(output))][1:]
+    differ = [] if faults else conditional_model.check_rows(str(tags), says, table, rows, chance, 30)
+    check(status == bool(faults) and told == wanted and not (faults and output) and not differ,
+          f"{options.words} {tags}: {status} {told}, not {wanted}; {differ}")
+
+
+def worked(check, means, room, chance):
+    """The worked rows and files. Of those with a table of holidays the rows have other bytes than the model writes."""
     with open(f"{HERE}/conditional/rows.csv", newline="") as source:
         for row in csv.DictReader(source):
-            if not row["options"]:
-                tags = [tag.encode().decode("latin-1").split("=", 1) for tag in row["tags"].split(" | ")]
+            tags = [tuple(tag.encode().decode("latin-1").split("=", 1)) for tag in row["tags"].split(" | ")]
+            asked = conditional_model.read_options(row["options"])
+            if asked.holidays:
+                rows, first, last = asked.holidays
+                options = Given(table=rows, path=f"{HERE}/holidays/region.csv", years=f"{first}-{last}")
+                compare_meaning(check, tags, means, room, options, chance)
+            elif not row["options"]:
                 compare(check, written([["element", "key", "value"], *([7, *tag] for tag in tags)]), means, room)
     with open(f"{HERE}/conditional/files.csv", newline="") as source:
         for row in csv.DictReader(source):
@@ -180,6 +252,34 @@ def drawn(chance, table):
     return [["element", "key", "value"], *(row for row in rows if row not in ([], [""]))]
 
 
+def wide_term(chance):
+    """Hours with holidays, moments, comments or rules of other kinds, in parentheses, or a comparison."""
+    if chance.random() < 0.2:
+        return chance.choice(("weight>7.5", "hazmat", "residents"))
+    return f"({chance.choice((known_program.drawn_text, wider_program.drawn_text))(chance)})"
+
+
+def wide_tags(chance, table):
+    """Tags of one element with such hours."""
+    keys = [key for mode in table.modes for key in conditional_model.keys_of(mode).values() if not key.startswith("oneway")]
+    tags = []
+    for key in chance.sample(keys, chance.randint(1, 2)):
+        parts = [f"{chance.choice(('no', 'yes', 'destination'))} @ {' AND '.join(wide_term(chance) for _ in range(chance.randint(1, 2)))}"
+                 for _ in range(chance.randint(1, 2))]
+        tags.append((key + conditional_model.CONDITIONAL, "; ".join(parts).encode().decode("latin-1")))
+    return tags
+
+
+def with_options(check, means, room, chance):
+    """Drawn tags with such hours: with all options, and without one of them."""
+    rows, years = known_program.drawn_table(chance)
+    path = known_program.written_table(rows, room)
+    clocks = moments_tests.drawn_options(chance)
+    tags = wide_tags(chance, means[0])
+    for options in (Given(True, False, rows, path, years, clocks), Given(True), Given(True, False, rows, path, "", clocks)):
+        compare_meaning(check, tags, means, room, options, chance)
+
+
 def main():
     count, seed = int(sys.argv[1]) if sys.argv[1:] else 200, int(sys.argv[2]) if sys.argv[2:] else 1
     chance = random.Random(seed)
@@ -188,12 +288,13 @@ def main():
         text = source.read()
     table = conditional_model.read_means(list(csv.reader(io.StringIO(text)))[1:])
     with tempfile.TemporaryDirectory() as room:
-        worked(check, (table, text.encode()), room)
+        worked(check, (table, text.encode()), room, chance)
         faulty_means(check, room)
         hundred(check, chance, room)
         for _ in range(count):
             options = chance.choice((LOOSE, LOOSE, GERMAN, STRICT))
             compare(check, written(drawn(chance, table)), (table, text.encode()), room, options)
+            with_options(check, (table, text.encode()), room, chance)
     return check.end()
 
 

@@ -360,7 +360,7 @@ expect 'a long word' 1 '' "gtdesk: DOMAIN: FieldRange at 71
     $(printf '%43s' '')^
     expected: 1 to 12 for a month"
 run hours '1800-2056/2'
-expect 'a domain too large' 1 '' $'gtdesk: TEXT: TooMany at 0\n    1800-2056/2\n    ^\n    expected: hours that take at most 128 basic domains'
+expect 'a domain too large' 1 '' $'gtdesk: TEXT: TooMany at 0\n    1800-2056/2\n    ^\n    expected: hours that take at most 128 basic domains; these take 129'
 run hours $'Mo\xff'
 expect 'hours that are no text' 2 '' "gtdesk: command line: a word is no text $see"
 
@@ -398,7 +398,7 @@ expect 'records of standard input' 0 $'element,direction,vehicles,domain\n1,both
 printf '%s\n' element,direction,vehicles,hours '1,both,0,Apr 10-31' '1,up,0,24/7' '1,both,0,24/7' '1,both,0,1800-2056/2' > bad.csv
 run records bad.csv
 expect 'faults of hours' 1 '' $'bad.csv:2: row 1: Hours Range at 7\n    Apr 10-31\n           ^\n    expected: a number or a time in its range, such as 08:00 or Apr 30\nbad.csv:3: row 2: Direction
-    up\n    ^\n    expected: positive, negative or both\nbad.csv:5: row 4: Hours TooMany at 0\n    1800-2056/2\n    ^\n    expected: hours that take at most 128 basic domains'
+    up\n    ^\n    expected: positive, negative or both\nbad.csv:5: row 4: Hours TooMany at 0\n    1800-2056/2\n    ^\n    expected: hours that take at most 128 basic domains; these take 129'
 run records a.csv
 expect 'no file of hours' 1 '' $'a.csv:1: Header\n    found:    element,direction,vehicle,domain
     expected: element,direction,vehicles,hours'
@@ -414,6 +414,30 @@ expect 'a full output for records' 3 '' 'gtdesk: standard output: cannot be writ
 status=$?
 : > err
 expect 'a full output for the faults of hours' 1 '' ''
+
+# Rules that hold all day, and hidden hours beside holidays.
+run hours 'Mo, Dec 24 off'
+expect 'a rule of days alone' 0 '[[(t2h0m0){d1}]-[(M12d24h0m0){d1}]]' 'gtdesk: TEXT: warning WholeDay at 0: open'
+printf 'first,last,kind,name\n2026-01-01,2026-12-31,PH-covered,\n2026-12-25,,PH,Christmas\n' > days.csv
+run hours --holidays days.csv --years 2026 'Mo 08:00-12:00; Mo 13:00-17:00; PH off'
+expect 'hidden hours beside holidays' 0 '[[[[[(t2h0m0){d1}]*[(h8m0){m240}]]-[(t2h0m0){d1}]]+[[(t2h0m0){d1}]*[(h13m0){m240}]]]-[(y2026M12d25h0m0){d1}]]' \
+    $'gtdesk: TEXT: warning Hides at 16: Mo 08:00-12:00, Mo 13:00-17:00; PH off\ngtdesk: TEXT: warning KnownYears at 32: 2026-2026'
+
+# Tags with hours that need a table of holidays.
+printf 'element,key,value\n7,access:conditional,no @ (10:00-12:00; PH off)\n' > tags.csv
+printf 'kind,name,means\nmode,access,0\n' > means.csv
+printf 'first,last,kind,name\n2026-01-01,2026-12-31,PH-covered,\n2026-12-25,,PH,Christmas\n' > days.csv
+run conditions --holidays days.csv --years 2026 tags.csv means.csv
+expect 'tags with holidays' 0 $'element,direction,vehicles,domain\n7,both,0,[[[(h0m0){d1}]*[(h10m0){m120}]]-[(y2026M12d25h0m0){d1}]]' \
+    'tags.csv:2: row 1: warning Hours KnownYears at 19: 2026-2026'
+run conditions tags.csv means.csv
+expect 'no table of holidays' 1 '' $'tags.csv:2: row 1: Hours Holidays at 19\n    no @ (10:00-12:00; PH off)\n                       ^\n    expected: a table of such holidays: give one with --holidays FILE'
+run conditions --holidays days.csv --years 2025-2026 tags.csv means.csv
+expect 'a day that the table does not cover' 1 '' $'tags.csv:2: row 1: Hours Uncovered at 19: 2025-01-01\n    no @ (10:00-12:00; PH off)\n                       ^\n    expected: a table with all holidays of these years, and rows that say so: PH-covered or SH-covered'
+run conditions --holidays means.csv --years 2026 tags.csv means.csv
+expect 'no table' 1 '' 'gtdesk: means.csv: Header'
+run conditions --holidays - --years 2026 - means.csv < days.csv
+expect 'standard input twice' 2 '' 'gtdesk: command line: standard input is given more than once (see gtdesk conditions --help)'
 
 # Outputs that fail.
 : > out

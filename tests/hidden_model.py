@@ -13,8 +13,11 @@ from typing import NamedTuple
 
 import hours_model
 import loose_model
+import wider_model
 
 HERE = os.path.dirname(os.path.abspath(__file__))
+# The order of warnings at one place.
+ORDER = ["Loose", "WholeDay", "Hides"]
 FIRST, DAYS = datetime.date(2024, 1, 1), 800
 
 
@@ -127,7 +130,9 @@ def warnings(given, german=False):
         place = len(before) + len(strict[len(before):]) - len(strict[len(before):].lstrip(" "))
         form = with_comma(strict.replace(" - ", "-"), number)
         found.append(("Hides", written_place(parts, place) if parts else place, form))
-    return sorted(found, key=lambda warning: (warning[1], warning[0] == "Hides"))
+    days = [written_place(parts, place) if parts else place for place in wider_model.whole_days(strict.encode())]
+    found += [("WholeDay", place, "open") for place in days]
+    return sorted(found, key=lambda warning: (warning[1], ORDER.index(warning[0])))
 
 
 def told(given, german=False):

@@ -55,7 +55,12 @@ def tokens(text):
 
 
 class Reader(known_model.Reader, moments_model.Reader):
-    """The reader of hours with holidays and moments, with the wider rules."""
+    """The reader of hours with holidays and moments, with the wider rules. It keeps where those begin that say days alone, and behind
+    which a comma begins another rule."""
+
+    def __init__(self, *given):
+        super().__init__(*given)
+        self.whole_days = []
 
     def refuse(self):
         if self.peek() in ("comment", "unknown", "||"):
@@ -72,6 +77,14 @@ class Reader(known_model.Reader, moments_model.Reader):
         return rules
 
     def wider_rule(self, link, at):
+        begin = self.at
+        rule = self.any_rule(link, at)
+        words = {token.kind for token in self.found[begin:self.at]}
+        if rule.kinds and self.peek() == "," and not words & {"modifier", "unknown", "comment", "time"} and rule.times == [(0, DAY)]:
+            self.whole_days.append(self.found[begin].place)
+        return rule
+
+    def any_rule(self, link, at):
         kinds, times, always = {}, [], False
         if self.peek() == "number" and self.text() == "24":
             self.always()
@@ -154,8 +167,18 @@ def first_holiday(text):
     return min((item.place for rule in rules for item in known_model.listed_in(rule)), default=None)
 
 
+def whole_days(text):
+    """Where the rules begin that say days alone. A text with parentheses is not looked through."""
+    if b"(" in COMMENT.sub(b"", text):
+        return []
+    reader = Reader(tokens(text), len(text))
+    reader.hours()
+    return reader.whole_days
+
+
 def warnings(text, rules, years):
-    """The warnings of a text that has these rules: of its remarks, of its unknown rules, and of its holidays."""
+    """The warnings of a text that has these rules: of its remarks, of its unknown rules, of its rules that say days alone, and of its
+    holidays."""
     told = []
     for rule in rules:
         if rule.place is not None and rule.says == "open":
@@ -163,9 +186,10 @@ def warnings(text, rules, years):
             told.append((rule.place, 0, f"Remark at {rule.place}: open {comment}"))
         elif rule.place is not None:
             told.append((rule.place, 1, f"NotKnown at {rule.place}"))
+    told += [(place, 2, f"WholeDay at {place}: open") for place in whole_days(text)]
     first = first_holiday(text)
     if first is not None:
-        told.append((first, 2, f"KnownYears at {first}: {years[0]}-{years[1]}"))
+        told.append((first, 3, f"KnownYears at {first}: {years[0]}-{years[1]}"))
     return [line for _, _, line in sorted(told)]
 
 

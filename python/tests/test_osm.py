@@ -169,13 +169,14 @@ def test_nothing_that_conditions_need_is_left_out(tmp_path):
 
 def records_by_model(elements, rows):
     """The lines of records of elements without faults, and the faults of the others, as a model of the translation has them."""
-    model = model_of("conditions_program").conditional_model
+    program = model_of("conditions_program")
+    model = program.conditional_model
     means = model.read_means([line.split(",") for line in MEANS.splitlines()[1:]])
     lines, left_out = [], []
     for element, *_ in elements:
         tags = [(key, value) for number, key, value in rows if number == element]
-        says, _, _, faults = model.read_tags([(key, value.encode().decode("latin-1")) for key, value in tags], means,
-                                             model.Options(None, False))
+        tags_as_bytes = [(key, value.encode().decode("latin-1")) for key, value in tags]
+        says, _, _, faults = model.read_tags(tags_as_bytes, means, program.LOOSE)
         lines += [] if faults else [f"{element},{','.join(row)}" for row in model.rows_of(says, means)]
         told = [fault.removeprefix("row ").split(": ", 1) for fault in faults]
         left_out += [[element, *tags[int(number) - 1], fault] for number, fault in told]
@@ -198,6 +199,45 @@ def test_records_of_an_extract(tmp_path):
         assert records == ["element,direction,vehicles,domain", *lines]
         assert read(out / "left_out.csv", "element,key,value,fault") == left_out
         assert sum(done.at_fault.values()) == len({element for element, *_ in left_out})
+
+
+HOLIDAYS = "first,last,kind,name\n2026-01-01,2026-12-31,PH-covered,\n2026-12-25,,PH,Christmas\n"
+WAYS = [(1, False, [1, 2], [("access:conditional", "no @ (10:00-12:00; PH off)")])]
+
+
+def test_hours_of_holidays(tmp_path):
+    """A table of holidays and its years are handed on; without them such hours are at fault, and so are wrong ones."""
+    written(WAYS, tmp_path / "town.osm")
+    (tmp_path / "means.csv").write_text(MEANS)
+    (tmp_path / "holidays.csv").write_text(HOLIDAYS)
+    command = [str(tmp_path / "town.osm"), "--means", str(tmp_path / "means.csv"), "--records", "--quiet"]
+    given = ["--holidays", str(tmp_path / "holidays.csv"), "--years", "2026"]
+    assert main([*command, "--out", str(tmp_path / "with"), *given]) == 0
+    records = (tmp_path / "with" / "records-00000.csv").read_text().splitlines()
+    element, direction, vehicles, domain = records[1].split(",")
+    assert (element, direction, vehicles) == ("1", "both", "0")
+    closed = gtd.Domain(domain)
+    assert [closed.contains(f"{day}T11:00:00") for day in ("2026-12-24", "2026-12-25", "2027-12-25")] == [True, False, True]
+    assert main([*command, "--out", str(tmp_path / "without")]) == 0
+    left_out = read(tmp_path / "without" / "left_out.csv", "element,key,value,fault")
+    assert [fault for *_, fault in left_out] == ["Hours Holidays at 19"]
+    done = osm.extract(*command[:1], command[2], tmp_path / "years", records=True, hours={"holidays": tmp_path / "holidays.csv",
+                                                                                        "years": "2026-2027"})
+    assert done.at_fault == {"Hours Uncovered": 1}
+
+
+def test_a_table_of_holidays_at_fault_is_refused(tmp_path):
+    written(WAYS, tmp_path / "town.osm")
+    (tmp_path / "means.csv").write_text(MEANS)
+    (tmp_path / "holidays.csv").write_text(HOLIDAYS + "2026-12-32,,PH,\n")
+    hours = {"holidays": tmp_path / "holidays.csv", "years": "2026"}
+    with pytest.raises(gtd.Fault, match="First") as raised:
+        osm.extract(tmp_path / "town.osm", tmp_path / "means.csv", tmp_path / "out", records=True, hours=hours)
+    assert (raised.value.kind, raised.value.row) == ("First", 3)
+    for wrong in ({"years": "1"}, {"holiday": "x"}):
+        with pytest.raises(ValueError, match="YEARS|options of hours"):
+            osm.extract(tmp_path / "town.osm", tmp_path / "means.csv", tmp_path / "out", records=True, hours=wrong)
+    assert not (tmp_path / "out").exists()
 
 
 def test_means_at_fault_are_refused(tmp_path):

@@ -19,7 +19,7 @@ use Rattle.gtd_records.specs.declared.vehicles.Version.TheVariants as version
 use Rattle.gtd_records.specs.facts.SortedCodes.{ascending}
 use Rattle.gtd_hours_options.specs.Readings.{HowRead, Reads}
 use Rattle.gtd_hours_file.specs.HoursFile.{AreEach, AreOfFile, AreRows, AreTable, IsHoursColumn, IsHoursFault}
-use Rattle.gtd_hours_file.specs.HoursFile.{IsHoursFile, IsHoursOf, IsRow, faults_of, header, sound_of, text_fault}
+use Rattle.gtd_hours_file.specs.HoursFile.{IsHoursFile, IsHoursOf, IsRow, faults_of, header, sound_of}
 use Rattle.gtd_hours_file.specs.HoursFile.{with_hours}
 use Rattle.gtd_hours_file.specs.SameAnswers.{IsEachRead}
 use Rattle.gtd_hours_file.specs.declared.fault.HoursFileFault.{HoursFileFault}
@@ -107,7 +107,7 @@ module _ (how : HowRead) (texts : HasVectors ℕ most_file_bytes) (each_text : I
   by_cost : (row b : ℕ) (text : List ℕ) → length (b ∷ text) ≤ most_file_bytes → (read : KnownHours) → Reads how (b ∷ text) read
       → Column row (b ∷ text)
   by_cost row b text le read is = elim (cases_lt most_basic_domains (hours_cost read.hours)) [
-    | inl many ↦ (Err (fault.TooMany row), IsHoursFault.of_many read is many refl)
+    | inl many ↦ (Err (fault.TooMany row (counted (hours_cost read.hours))), IsHoursFault.of_many read is many refl)
     | inr few ↦ let k = kept (b ∷ text) le read is few in (Ok (Some k.0), k.1)
   ]
 
@@ -115,7 +115,7 @@ module _ (how : HowRead) (texts : HasVectors ℕ most_file_bytes) (each_text : I
   column row [] le = (Ok None, refl)
   column row (b ∷ text) le = elim (each_text (b ∷ text) le) [
     | inl read ↦ by_cost row b text le read.0 read.1
-    | inr bad ↦ (Err (text_fault row bad.0), IsHoursFault.of_first bad.0 bad.1 refl)
+    | inr bad ↦ (Err (fault.Hours row bad.0), IsHoursFault.of_first bad.0 bad.1 refl)
   ]
 
   abbrev IsRead : ℕ → ℕ → Closed → List ℕ → Vehicles → Result HoursRow HoursFileFault → Type 0

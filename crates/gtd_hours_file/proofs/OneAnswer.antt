@@ -7,6 +7,7 @@ use Rattle.csv.specs.Reading.{default_config, records, strip_bom}
 use Rattle.gtd_core.specs.Limits.{most_rows}
 use Rattle.gtd_core.specs.Parts.{domain_tree}
 use Rattle.gtd_core.specs.Trees.{Tree}
+use Rattle.gtd_hours_options.specs.Readings.{AreReadInOneWay, HowRead}
 use Rattle.gtd_hours_options.specs.declared.fault.OptionsFault.{OptionsFault}
 use Rattle.gtd_records.specs.Closing.{HoldsAt, Restriction}
 use Rattle.gtd_records.specs.Columns.{Fields, IsOrdered, IsSortedSet, closed_of, number_of, vehicles_of}
@@ -15,11 +16,10 @@ use Rattle.gtd_records.specs.declared.vehicles.Vehicles.{Vehicles}
 use Rattle.gtd_records.specs.declared.vehicles.Vehicles.TheVariants.{Every, Only, AllBut}
 use Rattle.gtd_records.specs.declared.vehicles.Version.TheVariants as version
 use Rattle.gtd_records.specs.facts.Rising.{one_list}
-use Rattle.gtd_hours_options.specs.Readings.{HowRead}
 use Rattle.gtd_hours_file.specs.HoursFile.{AreEach, AreOfFile, AreRows, AreTable, AreTooMany, IsFullRow}
 use Rattle.gtd_hours_file.specs.HoursFile.{IsHoursColumn, IsHoursFault, IsHoursFile, IsHoursOf, IsRow, faults_of, header}
-use Rattle.gtd_hours_file.specs.HoursFile.{sound_of, text_fault, with_hours}
-use Rattle.gtd_hours_file.specs.SameAnswers.{AreReadInOneWay, AreSameHours, AreSameRestrictions, AreSameRows, IsSameAnswer}
+use Rattle.gtd_hours_file.specs.HoursFile.{sound_of, with_hours}
+use Rattle.gtd_hours_file.specs.SameAnswers.{AreSameHours, AreSameRestrictions, AreSameRows, IsSameAnswer}
 use Rattle.gtd_hours_file.specs.SameAnswers.{IsSameRestriction, IsSameRow}
 use Rattle.gtd_hours_file.specs.Translated.{IsDomainOf, IsTranslated, IsTranslation}
 use Rattle.gtd_hours_file.specs.declared.fault.HoursFileFault.{HoursFileFault}
@@ -89,12 +89,13 @@ module _ (how : HowRead) (one_way : AreReadInOneWay how) where
   same_fault : (row : ℕ) (text : List ℕ) (v w : HoursFileFault) → IsHoursFault how row text v → IsHoursFault how row text w
       → v ≡ w
   same_fault row text v w (IsHoursFault.of_first x p e) (IsHoursFault.of_first y q f) =
-      e ∙ ap (λ (bad : OptionsFault). text_fault row bad) (one_way.fault text x y p q) ∙ sym f
+      e ∙ ap (λ (bad : OptionsFault). fault.Hours row bad) (one_way.fault text x y p q) ∙ sym f
   same_fault row text v w (IsHoursFault.of_first x p e) (IsHoursFault.of_many read q more f) =
       absurd (one_way.apart text read x q p)
   same_fault row text v w (IsHoursFault.of_many read p more e) (IsHoursFault.of_first y q f) =
       absurd (one_way.apart text read y p q)
-  same_fault row text v w (IsHoursFault.of_many read p more e) (IsHoursFault.of_many other q most f) = e ∙ sym f
+  same_fault row text v w (IsHoursFault.of_many read p more e) (IsHoursFault.of_many other q most f) =
+      e ∙ ap (λ (n : ℕ). fault.TooMany row (counted n)) (one_way.cost text read other p q) ∙ sym f
 
   not_faulty : (row : ℕ) (text : List ℕ) (given : RowHours) (w : HoursFileFault) → IsHoursOf how text given
       → IsHoursFault how row text w → ⊥

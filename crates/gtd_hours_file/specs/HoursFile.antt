@@ -3,18 +3,11 @@ use Rattle.std.specs.Prelude.{◌≡◌, ◌≢◌, ◌<◌, ◌≤◌, ◌⊎�
 use Rattle.std.specs.Prelude.{Some, None, MatchOption}
 use Rattle.csv.specs.Reading.{default_config, records, strip_bom}
 use Rattle.gtd_core.specs.Limits.{most_basic_domains, most_file_bytes, most_rows}
-use Rattle.gtd_hours.specs.Cost.{hours_cost}
-use Rattle.gtd_hours_grammar.specs.declared.fault.FaultKind.TheVariants as kind
-use Rattle.gtd_hours_moments.specs.declared.needs.NeedKind.{NeedKind}
-use Rattle.gtd_hours_moments.specs.declared.needs.NeedKind.TheVariants as need
-use Rattle.gtd_hours_known.specs.declared.fault.KnownFault.{KnownFault}
-use Rattle.gtd_hours_known.specs.declared.fault.KnownFault.TheVariants as of_text
+use Rattle.gtd_hours.specs.Cost.{counted, hours_cost}
 use Rattle.gtd_hours_known.specs.declared.known.KnownHours.{KnownHours}
 use Rattle.gtd_hours_loose.specs.declared.manner.Manner.{Manner}
 use Rattle.gtd_hours_options.specs.Readings.{HasFault, HowRead, Reads}
 use Rattle.gtd_hours_options.specs.declared.fault.OptionsFault.{OptionsFault}
-use Rattle.gtd_hours_options.specs.declared.fault.OptionsFault.TheVariants as with_options
-use Rattle.gtd_hours_options.specs.declared.fault.OptionsReadFault.TheVariants as unread
 use Rattle.gtd_hours_options.specs.declared.options.Options.{Options}
 use Rattle.gtd_records.specs.Columns.{Fields, IsOrdered, closed_of, number_of, vehicles_of}
 use Rattle.gtd_records.specs.declared.direction.Closed.{Closed}
@@ -25,32 +18,12 @@ use Rattle.gtd_hours_file.specs.declared.fault.HoursFileFault.TheVariants as fau
 use Rattle.gtd_hours_file.specs.declared.row.HoursRow.{HoursRow}
 use Rattle.gtd_hours_file.specs.declared.row.RowHours.{RowHours}
 
--- ---- faults of texts, in the row with this number
-
-abbrev pub known_fault : ℕ → KnownFault → HoursFileFault
-known_fault row (of_text.Hours why) = fault.Hours row why
-known_fault row (of_text.Ambiguous place) = fault.Ambiguous row place
-known_fault row (of_text.Holidays place) = fault.Holidays row place
-known_fault row (of_text.Years place) = fault.Years row place
-known_fault row (of_text.Uncovered place day) = fault.Uncovered row place day
-known_fault row (of_text.Unknown place) = fault.Unknown row place
-
-abbrev pub need_fault : ℕ → NeedKind → ℕ → HoursFileFault
-need_fault row need.SunTime place = fault.SunTime row place
-need_fault row need.Range place = fault.Hours row (record { kind = kind.Range; place = place })
-need_fault row need.OpenEnd place = fault.OpenEnd row place
-need_fault row need.Point place = fault.Point row place
-
-abbrev pub text_fault : ℕ → OptionsFault → HoursFileFault
-text_fault row (with_options.Known bad) = known_fault row bad
-text_fault row (with_options.Time bad) = need_fault row bad.kind bad.place
-
 -- What is wrong with a text of hours in the row with this number: its first fault; or hours are read of it whose domain has too
--- many basic domains.
+-- many basic domains, which are counted.
 pub data IsHoursFault (how : HowRead) (row : ℕ) (text : List ℕ) (why : HoursFileFault) : Type 0 where
-  of_first : (bad : OptionsFault) → HasFault how text bad → why ≡ text_fault row bad → IsHoursFault how row text why
-  of_many : (read : KnownHours) → Reads how text read → most_basic_domains < hours_cost read.hours → why ≡ fault.TooMany row
-      → IsHoursFault how row text why
+  of_first : (bad : OptionsFault) → HasFault how text bad → why ≡ fault.Hours row bad → IsHoursFault how row text why
+  of_many : (read : KnownHours) → Reads how text read → most_basic_domains < hours_cost read.hours
+      → why ≡ fault.TooMany row (counted (hours_cost read.hours)) → IsHoursFault how row text why
 
 -- ---- columns and rows
 

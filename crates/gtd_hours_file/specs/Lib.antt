@@ -2,7 +2,6 @@ pub mod HoursFile
 pub mod Listing
 pub mod PuttingRows
 pub mod Reading
-pub mod Refused
 pub mod Run
 pub mod SameAnswers
 pub mod TakenRows

@@ -4,7 +4,7 @@ use Rattle.gtd_hours_options.specs.declared.fault.OptionsReadFault.{OptionsReadF
 use Rattle.gtd_hours_options.specs.declared.fault.OptionsReadFault.TheVariants as reading
 use Rattle.gtd_records.specs.Columns.{Fields}
 use Rattle.gtd_hours_options.specs.Readings.{HowRead}
-use Rattle.gtd_hours_file.specs.HoursFile.{IsHoursColumn, IsHoursFault, IsRow, text_fault}
+use Rattle.gtd_hours_file.specs.HoursFile.{IsHoursColumn, IsHoursFault, IsRow}
 use Rattle.gtd_hours_file.specs.declared.row.HoursRow.{HoursRow}
 use Rattle.gtd_hours_file.specs.declared.row.RowHours.{RowHours}
 use Rattle.gtd_hours_file.specs.declared.row.RowStop.{RowStop}
@@ -12,7 +12,7 @@ use Rattle.gtd_hours_file.specs.declared.row.RowStop.TheVariants as stop
 
 -- why a text is not read, in the row with this number
 abbrev pub unread : ℕ → OptionsReadFault → RowStop
-unread row (reading.Fault why) = stop.Fault (text_fault row why)
+unread row (reading.Fault why) = stop.Fault (fault.Hours row why)
 unread row reading.NoMemory = stop.NoMemory
 
 -- the fault of a text of hours in the row with this number, if memory was not refused

@@ -1,6 +1,5 @@
 -- Answers of files of hours that say the same. Hours are the same if they are open at the same seconds.
 use Rattle.std.specs.Prelude.{◌≡◌, ◌↔◌, ◌⊎◌, ◌≤◌, ℕ, ℤ, List, [], ◌∷◌, length, Option, Some, None, Result, Ok, Err, ⊤}
-use Rattle.gtd_hours.specs.Cost.{hours_cost}
 use Rattle.gtd_hours.specs.Opening.{IsOpen}
 use Rattle.gtd_hours_known.specs.declared.known.KnownHours.{KnownHours}
 use Rattle.gtd_hours_options.specs.declared.fault.OptionsFault.{OptionsFault}
@@ -9,16 +8,6 @@ use Rattle.gtd_hours_options.specs.Readings.{HasFault, HowRead, Reads}
 use Rattle.gtd_hours_file.specs.declared.fault.HoursFileFault.{HoursFileFault}
 use Rattle.gtd_hours_file.specs.declared.row.HoursRow.{HoursRow}
 use Rattle.gtd_hours_file.specs.declared.row.RowHours.{RowHours}
-
--- Texts are read in one way: hours that are read of a text are open at the same seconds and take as many basic domains, a text
--- has one first fault at most, and none if hours are read of it.
-pub record AreReadInOneWay (how : HowRead) : Type 0 where
-  pub seconds : (text : List ℕ) (one other : KnownHours) → Reads how text one → Reads how text other
-      → (s : ℤ) → IsOpen one.hours s ↔ IsOpen other.hours s
-  pub cost : (text : List ℕ) (one other : KnownHours) → Reads how text one → Reads how text other
-      → hours_cost one.hours ≡ hours_cost other.hours
-  pub fault : (text : List ℕ) (one other : OptionsFault) → HasFault how text one → HasFault how text other → one ≡ other
-  pub apart : (text : List ℕ) (read : KnownHours) (bad : OptionsFault) → Reads how text read → HasFault how text bad → ⊥
 
 -- each text of at most so many bytes is read, or has a first fault
 abbrev pub IsEachRead : HowRead → ℕ → Type 0

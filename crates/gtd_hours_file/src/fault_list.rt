@@ -9,7 +9,8 @@ ghost use Rattle.gtd_hours_file.specs.Listing.{AreLines, IsSnippet, fault_text, 
 use crate::fault::HoursFileFault;
 use crate::words::{HoursFaultText, accepted};
 use gtd_core::limits::MOST_ROWS;
-use gtd_faults::{Expected, Printable, Rows, Snippet, Stretch, first_line};
+use gtd_faults::{Printable, Rows, Snippet, Stretch, first_line};
+use gtd_hours_faults::place_in;
 use std::alloc::{AllocError, Global};
 
 // The row of a fault, if it has one.
@@ -24,15 +25,7 @@ fn row_of(fault: HoursFileFault) -> Option<u32>
         HoursFileFault::Direction { row } => Some(row),
         HoursFileFault::Vehicle { row } => Some(row),
         HoursFileFault::Hours { row, .. } => Some(row),
-        HoursFileFault::Ambiguous { row, .. } => Some(row),
-        HoursFileFault::Holidays { row, .. } => Some(row),
-        HoursFileFault::Years { row, .. } => Some(row),
-        HoursFileFault::Uncovered { row, .. } => Some(row),
-        HoursFileFault::Unknown { row, .. } => Some(row),
-        HoursFileFault::OpenEnd { row, .. } => Some(row),
-        HoursFileFault::Point { row, .. } => Some(row),
-        HoursFileFault::SunTime { row, .. } => Some(row),
-        HoursFileFault::TooMany { row } => Some(row),
+        HoursFileFault::TooMany { row, .. } => Some(row),
         HoursFileFault::TooManyRows => Some(MOST_ROWS + 1),
     }
 }
@@ -53,15 +46,7 @@ fn fault_snippet<'a>(bytes: &'a [u8], rows: &'a Rows<'_>, fault: HoursFileFault)
         HoursFileFault::Element { .. } => rows.field(0, 0),
         HoursFileFault::Direction { .. } => rows.field(1, 0),
         HoursFileFault::Vehicle { .. } => rows.field(2, 0),
-        HoursFileFault::Hours { fault, .. } => rows.field(3, fault.place),
-        HoursFileFault::Ambiguous { place, .. } => rows.field(3, place),
-        HoursFileFault::Holidays { place, .. } => rows.field(3, place),
-        HoursFileFault::Years { place, .. } => rows.field(3, place),
-        HoursFileFault::Uncovered { place, .. } => rows.field(3, place),
-        HoursFileFault::Unknown { place, .. } => rows.field(3, place),
-        HoursFileFault::OpenEnd { place, .. } => rows.field(3, place),
-        HoursFileFault::Point { place, .. } => rows.field(3, place),
-        HoursFileFault::SunTime { place, .. } => rows.field(3, place),
+        HoursFileFault::Hours { fault, .. } => rows.field(3, place_in(fault)),
         HoursFileFault::TooMany { .. } => rows.field(3, 0),
         _ => Snippet::Nothing,
     }
@@ -80,8 +65,8 @@ fn push_fault(
 {
     let path = Printable(path.as_bytes());
     let words = HoursFaultText(fault);
-    let expected = Expected(accepted(fault));
-    write!(text, "{path}:{line}: {words}\n{snippet}{expected}")
+    let accepted = accepted(fault);
+    write!(text, "{path}:{line}: {words}\n{snippet}{accepted}")
 }
 
 /// The lines of these faults, in order, for the file with this path and these bytes.

@@ -10,20 +10,14 @@ ghost use Rattle.gtd_records.specs.Closing.{Closes, Restriction};
 ghost use Rattle.gtd_records.specs.File.{IsFile};
 ghost use Rattle.gtd_records.specs.declared.direction.Direction.{Direction};
 ghost use Rattle.gtd_report.specs.Putting.{text_of};
-ghost use Rattle.gtd_hours_options.specs.Readings.{HowRead};
+ghost use Rattle.gtd_hours_options.specs.Readings.{AreReadInOneWay, HowRead};
 ghost use Rattle.gtd_hours_file.specs.HoursFile.{IsHoursFile};
-ghost use Rattle.gtd_hours_file.specs.SameAnswers.{AreReadInOneWay, AreSameRestrictions, AreSameRows, IsEachRead};
-ghost use Rattle.gtd_hours_file.specs.SameAnswers.{IsSameAnswer};
+ghost use Rattle.gtd_hours_file.specs.SameAnswers.{AreSameRestrictions, AreSameRows, IsEachRead, IsSameAnswer};
 ghost use Rattle.gtd_hours_file.specs.declared.fault.HoursFileFault.{HoursFileFault};
 ghost use Rattle.gtd_hours_file.specs.Translated.{IsTranslated, IsTranslation, RowCloses};
 ghost use Rattle.gtd_hours_file.specs.Warnings.{some_opens};
 ghost use Rattle.gtd_hours_file.specs.declared.row.HoursRow.{HoursRow};
 
-use gtd_hours_grammar::laws::one_first_fault;
-use gtd_hours_holiday_rules::laws::one_holiday_text;
-use gtd_hours_moments::laws::{one_moment_text, one_reading as one_list_of_times};
-use gtd_hours_options::laws::readings_without_times;
-use gtd_hours_tokens::laws::one_reading as one_list_of_tokens;
 use gtd_migrate::laws::migrated_is_accepted;
 use gtd_text::laws::canonical_text_of_domain;
 
@@ -59,18 +53,6 @@ pub fn one_answer()
     ensures restrictions { (ones others : List HoursRow) (found also : List Restriction) → AreSameRows ones others
         → IsTranslation ones found → IsTranslation others also → AreSameRestrictions found also }
 {}
-
-/// Texts are read in one way, whatever is given for holidays and times.
-pub fn one_way()
-    ensures all { (how : HowRead) → AreReadInOneWay how }
-{
-    one_first_fault();
-    one_holiday_text();
-    one_list_of_tokens();
-    one_list_of_times();
-    one_moment_text();
-    readings_without_times();
-}
 
 /// Where each text is read or has a fault, each file of hours has an answer, if memory has room for its texts: its rows, or all
 /// its faults.

@@ -7,9 +7,6 @@
 #![tactic(auto)]
 
 pub use fault::HoursFileFault;
-pub use refused::{
-    RefusalSnippet, ambiguous_snippet, domain_snippet, hours_snippet, too_many_snippet,
-};
 pub use row::{HoursRow, RowHours};
 pub use run::run_hours_records;
 pub use translated::Translated;
@@ -20,7 +17,6 @@ mod fault;
 mod fault_list;
 mod file;
 pub mod laws;
-mod refused;
 mod row;
 mod run;
 mod translated;

@@ -3,7 +3,6 @@
 ghost use Rattle.std.specs.Prelude.{◌≡◌, IfErr, IfOk};
 ghost use Rattle.csv.specs.Records.{fields_of};
 ghost use Rattle.gtd_hours_options.specs.Readings.{how_read};
-ghost use Rattle.gtd_hours_file.specs.HoursFile as file_spec;
 ghost use Rattle.gtd_hours_file.specs.HoursFile.{IsHoursOf};
 ghost use Rattle.gtd_hours_file.specs.Reading as spec;
 ghost use Rattle.gtd_hours_file.specs.Reading.{IsColumnRead, IsRowRead, IsTextStop};
@@ -12,11 +11,9 @@ use crate::fault::HoursFileFault;
 use csv::ByteRecord;
 use gtd_core::limits::MOST_BASIC_DOMAINS;
 use gtd_hours_domain::cost_of;
-use gtd_hours_grammar::{FaultKind, HoursFault};
 use gtd_hours_holidays::KnownYears;
-use gtd_hours_known::{KnownFault, KnownHours};
-use gtd_hours_moments::NeedKind;
-use gtd_hours_options::{HoursReading, OptionsFault, OptionsReadFault, read_hours_with_in};
+use gtd_hours_known::KnownHours;
+use gtd_hours_options::{HoursReading, OptionsReadFault, read_hours_with_in};
 use gtd_records::{
     Closed, Vehicles, Version, four_columns, read_closed, read_number, read_vehicles,
 };
@@ -66,58 +63,14 @@ impl From<AllocError> for RowStop {
     }
 }
 
-// A fault of the words of a text of hours, in the row with this number.
-fn known_fault(number: u32, why: KnownFault) -> HoursFileFault
-    ensures { result ≡ file_spec.known_fault number why }
-{
-    match why {
-        KnownFault::Hours(fault) => HoursFileFault::Hours { row: number, fault },
-        KnownFault::Ambiguous { place } => HoursFileFault::Ambiguous { row: number, place },
-        KnownFault::Holidays { place } => HoursFileFault::Holidays { row: number, place },
-        KnownFault::Years { place } => HoursFileFault::Years { row: number, place },
-        KnownFault::Uncovered { place, day } => HoursFileFault::Uncovered {
-            row: number,
-            place,
-            day,
-        },
-        KnownFault::Unknown { place } => HoursFileFault::Unknown { row: number, place },
-    }
-}
-
-// What the times of a text need or where one lasts too long, in the row with this number.
-fn need_fault(number: u32, kind: NeedKind, place: usize) -> HoursFileFault
-    ensures { result ≡ file_spec.need_fault number kind place }
-{
-    match kind {
-        NeedKind::SunTime => HoursFileFault::SunTime { row: number, place },
-        NeedKind::Range => HoursFileFault::Hours {
-            row: number,
-            fault: HoursFault {
-                kind: FaultKind::Range,
-                place,
-            },
-        },
-        NeedKind::OpenEnd => HoursFileFault::OpenEnd { row: number, place },
-        NeedKind::Point => HoursFileFault::Point { row: number, place },
-    }
-}
-
-// The fault of a text of hours, in the row with this number.
-fn text_fault(number: u32, why: OptionsFault) -> HoursFileFault
-    ensures { result ≡ file_spec.text_fault number why }
-{
-    match why {
-        OptionsFault::Known(bad) => known_fault(number, bad),
-        OptionsFault::Time(bad) => need_fault(number, bad.kind, bad.place),
-    }
-}
-
 // Why a text of hours is not read, in the row with this number.
 fn unread(number: u32, why: OptionsReadFault) -> RowStop
     ensures { result ≡ spec.unread number why }
 {
     match why {
-        OptionsReadFault::Fault(why) => RowStop::Fault(text_fault(number, why)),
+        OptionsReadFault::Fault(fault) => {
+            RowStop::Fault(HoursFileFault::Hours { row: number, fault })
+        },
         OptionsReadFault::NoMemory => RowStop::NoMemory,
     }
 }
@@ -156,8 +109,12 @@ fn read_text(
         Ok(read) => read,
         Err(why) => return Err(unread(number, why)),
     };
-    if cost_of(&read.hours) > u32::from(MOST_BASIC_DOMAINS) {
-        return Err(RowStop::Fault(HoursFileFault::TooMany { row: number }));
+    let needed = cost_of(&read.hours);
+    if needed > u32::from(MOST_BASIC_DOMAINS) {
+        return Err(RowStop::Fault(HoursFileFault::TooMany {
+            row: number,
+            needed,
+        }));
     }
     match kept(alloc, text, read, reading.options.known.years) {
         Ok(given) => Ok(given),

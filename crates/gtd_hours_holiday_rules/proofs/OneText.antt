@@ -18,6 +18,7 @@ use Rattle.gtd_hours_items.specs.declared.items.Item.{Item}
 use Rattle.gtd_hours_holiday_rules.specs.Parts.{parts_of, told_of}
 use Rattle.gtd_hours_holiday_rules.specs.Reading.{HasItems, HasParts, IsHolidayText}
 use Rattle.gtd_hours_holiday_rules.specs.Rules.{rules_of, said_by}
+use Rattle.gtd_hours_holiday_rules.specs.WholeDays.{whole_days_of}
 use Rattle.gtd_hours_holiday_rules.specs.declared.parts.Part.{Part}
 use Rattle.gtd_hours_holiday_rules.specs.declared.text.HolidayText.{HolidayText}
 use Rattle.gtd_hours_items.proofs.TokenLemmas.{left_true, right_true}
@@ -102,6 +103,13 @@ module _ (one_front : (text : List ℕ) (tokens : List Token) (one other : Optio
         p.has.has.told
         ∙ ap (λ (items : List Item). told_of (parts_of items)) (same_items text a b p q)
         ∙ sym q.has.has.told
+
+    pub one_whole_days : (text : List ℕ) (a b : HolidayText) → IsHolidayText text a → IsHolidayText text b
+        → a.whole_days.items ≡ b.whole_days.items
+    one_whole_days text a b p q =
+        p.has.has.whole_days
+        ∙ ap (λ (items : List Item). whole_days_of (parts_of items)) (same_items text a b p q)
+        ∙ sym q.has.has.whole_days
 
 -- ---- no bad place
 

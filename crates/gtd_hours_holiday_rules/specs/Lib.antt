@@ -4,6 +4,7 @@ pub mod Told
 pub mod Parts
 pub mod Checked
 pub mod Rules
+pub mod WholeDays
 pub mod Reading
 pub use Rattle.gtd_hours_tokens.specs.Lexing
 pub use Rattle.gtd_hours_items.specs.Items

@@ -10,12 +10,15 @@ use Rattle.gtd_hours_items.specs.Items.{AreItems}
 use Rattle.gtd_hours_items.specs.declared.items.Item.{Item}
 use Rattle.gtd_hours_holiday_rules.specs.Parts.{parts_of, told_of}
 use Rattle.gtd_hours_holiday_rules.specs.Rules.{rules_of, said_by}
+use Rattle.gtd_hours_holiday_rules.specs.WholeDays.{whole_days_of}
 
--- The text with these parts is so: its checked text, its rules, and how faults of the checked text are told.
+-- The text with these parts is so: its checked text, its rules, how faults of the checked text are told, and which rules hold all
+-- day.
 pub record HasParts (text : List ℕ) (parts : List Part) (read : HolidayText) : Type 0 where
   pub checked : read.checked.items ≡ checked_text text parts
   pub rules : map said_by read.rules.items ≡ rules_of text parts
   pub told : read.told.items ≡ told_of parts
+  pub whole_days : read.whole_days.items ≡ whole_days_of parts
 
 -- The text with the parts of its items is so, where these are its tokens.
 pub record HasItems (text : List ℕ) (tokens : List Token) (read : HolidayText) : Type 0 where

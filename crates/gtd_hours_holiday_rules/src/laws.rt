@@ -9,8 +9,9 @@ ghost use Rattle.gtd_hours_holiday_rules.specs.declared.text.HolidayText.{Holida
 use gtd_hours_moving::laws::one_moving_front;
 use gtd_hours_tokens::laws::one_reading;
 
-/// A text has one checked text at most, of its length, one list of rules, with a place for each of their holidays, and one way
-/// in which faults are told; and no byte then with which no token begins, nor a comment that is not whole.
+/// A text has one checked text at most, of its length, one list of rules, with a place for each of their holidays, one way in
+/// which faults are told, and one list of rules that hold all day; and no byte then with which no token begins, nor a comment
+/// that is not whole.
 pub fn one_holiday_text()
     ensures checked { (text : List ℕ) (one other : HolidayText) → IsHolidayText text one → IsHolidayText text other
         → one.checked.items ≡ other.checked.items }
@@ -18,6 +19,8 @@ pub fn one_holiday_text()
         → map said_by one.rules.items ≡ map said_by other.rules.items }
     ensures told { (text : List ℕ) (one other : HolidayText) → IsHolidayText text one → IsHolidayText text other
         → one.told.items ≡ other.told.items }
+    ensures whole_days { (text : List ℕ) (one other : HolidayText) → IsHolidayText text one → IsHolidayText text other
+        → one.whole_days.items ≡ other.whole_days.items }
     ensures length { (text : List ℕ) (read : HolidayText) → IsHolidayText text read
         → length read.checked.items ≡ length text }
     ensures places { (text : List ℕ) (read : HolidayText) → IsHolidayText text read

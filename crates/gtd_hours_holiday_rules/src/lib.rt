@@ -14,6 +14,7 @@ mod roles;
 mod rules;
 mod text;
 mod told;
+mod whole_days;
 
 pub use gtd_hours_items::NoHolidayText;
 pub use rules::HolidayRule;

@@ -136,8 +136,8 @@ fn end(rule: &mut HolidayRule) -> Result<(), AllocError>
     Ok(())
 }
 
-// The link of a rule that begins behind an item of which this becomes, if one begins there.
-fn link_behind(role: Role) -> Option<Link>
+/// The link of a rule that begins behind an item of which this becomes, if one begins there.
+pub fn link_behind(role: Role) -> Option<Link>
     ensures { result ≡ link_behind role }
 {
     match role {

@@ -8,6 +8,7 @@ use crate::checked::checked_text;
 use crate::parts::{Part, parts_of, told_of};
 use crate::rules::{HolidayRule, rules_of};
 use crate::told::Told;
+use crate::whole_days::whole_days_of;
 use gtd_hours_items::{NoHolidayText, items_of, tokens_of};
 use gtd_hours_tokens::Token;
 use std::alloc::{AllocError, Global};
@@ -21,6 +22,8 @@ pub struct HolidayText {
     pub rules: Vec<HolidayRule>,
     /// How faults of the checked text are told.
     pub told: Vec<Told>,
+    /// The number of bytes before each rule that says days alone, and behind which a comma begins another rule.
+    pub whole_days: Vec<usize>,
 }
 
 // The text with these parts.
@@ -30,10 +33,12 @@ fn with_parts(alloc: Global, text: &[u8], parts: &[Part]) -> Result<HolidayText,
     let checked = checked_text(alloc, text, parts)?;
     let rules = rules_of(alloc, text, parts)?;
     let told = told_of(alloc, parts)?;
+    let whole_days = whole_days_of(alloc, parts)?;
     Ok(HolidayText {
         checked,
         rules,
         told,
+        whole_days,
     })
 }
 

@@ -3,14 +3,15 @@ use Rattle.std.proofs.Common.{◌≡◌, ◌∙◌, ◌+◌, ◌≤◌, sym, ap,
 use Rattle.std.specs.Prelude.{OnOk, Option, Some, None, Result, Ok, Err}
 use Rattle.std.specs.List.{prefix_len}
 use Rattle.std.proofs.lemmas.List.{take_all}
-use Rattle.gtd_hours.specs.declared.hours.Hours.{Hours}
 use Rattle.gtd_hours_holidays.specs.declared.known_years.KnownYears.{KnownYears}
-use Rattle.gtd_hours_known.specs.declared.known.KnownHours.{KnownHours}
-use Rattle.gtd_hours_loose.specs.declared.reader.LooseHours.{LooseHours}
+use Rattle.gtd_hours_holiday_rules.specs.Reading.{IsHolidayText}
+use Rattle.gtd_hours_holiday_rules.specs.declared.text.HolidayText.{HolidayText}
+use Rattle.gtd_hours_items.specs.Comments.{IsBadPlace}
 use Rattle.gtd_hours_loose.specs.declared.strict.StrictForm.{StrictForm}
-use Rattle.gtd_hours_warnings.specs.Marks.{AddsLast, AddsNotKnown, AddsRemarks, AddsYears, AreWarningsWith, IsKnownYearsWarning}
-use Rattle.gtd_hours_warnings.specs.Marks.{IsNotKnownWarning, IsRemarkWarning, comment_of, is_unquoted}
-use Rattle.gtd_hours_warnings.specs.Warnings.{AddsAllHides, AddsLooseForm, AreWarnings, put_in}
+use Rattle.gtd_hours_warnings.specs.Marks.{AddsNotKnown, AddsRemarks, AddsWholeDays, AddsWholeDaysAt, AddsYears}
+use Rattle.gtd_hours_warnings.specs.Marks.{IsKnownYearsWarning}
+use Rattle.gtd_hours_warnings.specs.Marks.{IsNotKnownWarning, IsRemarkWarning, IsWholeDayWarning, comment_of, is_unquoted}
+use Rattle.gtd_hours_warnings.specs.Warnings.{place_in, put_in, strict_text}
 use Rattle.gtd_hours_warnings.specs.declared.warnings.Warning.{Warning}
 
 -- the bytes of a comment up to its second quote
@@ -43,45 +44,30 @@ not_known_left all more place w before after found e is put adds =
     subst (λ (l : List ℕ). AddsNotKnown l before found) (sym e)
     (w, is, subst (λ (l : List Warning). AddsNotKnown more l found) put adds)
 
+pub whole_days_left : (text : List ℕ) (form : Option StrictForm) (all more : List ℕ) (place : ℕ) (w : Warning)
+    (before after found : List Warning) → all ≡ place ∷ more → IsWholeDayWarning (place_in text form place) w
+    → after ≡ put_in w before → AddsWholeDaysAt text form more after found → AddsWholeDaysAt text form all before found
+whole_days_left text form all more place w before after found e is put adds =
+    subst (λ (l : List ℕ). AddsWholeDaysAt text form l before found) (sym e)
+    (w, is, subst (λ (l : List Warning). AddsWholeDaysAt text form more l found) put adds)
+
+-- the rules of the strict form are looked through
+pub whole_days_read : {E : Type 0} (text : List ℕ) (form : Option StrictForm) (found : HolidayText) (strict : List ℕ)
+    (result : Result (Unit {0}) E) (before after : List Warning) → strict ≡ strict_text text form
+    → IsHolidayText strict found → OnOk result (AddsWholeDaysAt text form found.whole_days.items before after)
+    → OnOk result (AddsWholeDays text form before after)
+whole_days_read text form found strict (Ok done) before after e is adds =
+    AddsWholeDays.read found (subst (λ (t : List ℕ). IsHolidayText t found) e is) adds
+whole_days_read text form found strict (Err why) before after e is adds = tt
+
+pub whole_days_unread : (text : List ℕ) (form : Option StrictForm) (place : ℕ) (strict : List ℕ) (before : List Warning)
+    → strict ≡ strict_text text form → IsBadPlace strict place → AddsWholeDays text form before before
+whole_days_unread text form place strict before e bad =
+    AddsWholeDays.unread place (subst (λ (t : List ℕ). IsBadPlace t place) e bad) (λ i. before)
+
 pub years_put : {E : Type 0} (place : ℕ) (given : Option KnownYears) (years : KnownYears) (w : Warning)
     (result : Result (Unit {0}) E) (before after : List Warning) → given ≡ Some years → IsKnownYearsWarning place years w
     → OnOk result (after ≡ put_in w before) → OnOk result (AddsYears place given before after)
 years_put place given years w (Ok done) before after e is put =
     subst (λ (o : Option KnownYears). AddsYears place o before after) (sym e) (w, is, put)
 years_put place given years w (Err why) before after e is put = tt
-
--- ---- a text with no marks
-
-module _ (text : List ℕ) (read : KnownHours) (plain : LooseHours) (years : Option KnownYears) (found : List Warning)
-    (hours : plain.hours ≡ read.hours) (form : plain.form ≡ read.form) (first : read.first_holiday ≡ None)
-    (remarks : read.remarks.items ≡ []) (unknowns : read.unknowns.items ≡ []) where
-  pub as_plain : AreWarningsWith text read years found → AreWarnings text plain found
-  as_plain w =
-      let one : w.remarked ≡ w.loose =
-      subst (λ (l : List ℕ). AddsRemarks text read.form l w.loose w.remarked) remarks w.remarks in
-      let two : w.marked ≡ w.remarked =
-      subst (λ (l : List ℕ). AddsNotKnown l w.remarked w.marked) unknowns w.unknowns in
-      let put : AddsAllHides text read.hours read.form w.marked found =
-      subst (λ (o : Option ℕ). AddsLast text read o years w.marked found) first w.put in
-      record {
-        loose = w.loose;
-        are_loose = subst (λ (o : Option StrictForm). AddsLooseForm text o w.loose) (sym form) w.are_loose;
-        put = subst (λ (l : List Warning). AddsAllHides text plain.hours plain.form l found) (two ∙ one)
-            (subst (λ (h : Hours). AddsAllHides text h plain.form w.marked found) (sym hours)
-            (subst (λ (o : Option StrictForm). AddsAllHides text read.hours o w.marked found) (sym form) put));
-      }
-
-  pub as_marked : AreWarnings text plain found → AreWarningsWith text read years found
-  as_marked w =
-      let loose = w.loose in
-      record {
-        loose = loose;
-        remarked = loose;
-        marked = loose;
-        are_loose = subst (λ (o : Option StrictForm). AddsLooseForm text o loose) form w.are_loose;
-        remarks = subst (λ (l : List ℕ). AddsRemarks text read.form l loose loose) (sym remarks) (λ i. loose);
-        unknowns = subst (λ (l : List ℕ). AddsNotKnown l loose loose) (sym unknowns) (λ i. loose);
-        put = subst (λ (o : Option ℕ). AddsLast text read o years loose found) (sym first)
-            (subst (λ (h : Hours). AddsAllHides text h read.form loose found) hours
-            (subst (λ (o : Option StrictForm). AddsAllHides text plain.hours o loose found) form w.put));
-      }

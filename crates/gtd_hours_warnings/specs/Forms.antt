@@ -21,9 +21,9 @@ abbrev pub IsWritten : List ℕ → List ℕ → Type 0
 IsWritten text form = (hours : Hours) × StandsFor text hours × (form ≡ hours_text hours)
 
 -- What is shown of a text with a comma here: its hours, with the word before the comma; or without the word, where it cannot
--- stand; or nothing, if neither is hours.
+-- stand; or, if neither is plain hours, the text with the word and the comma.
 pub data IsJoinedForm (text : List ℕ) (place : ℕ) (word form : List ℕ) : Type 0 where
   said : IsWritten (with_comma text place word) form → IsJoinedForm text place word form
   unsaid : IsFaulty (with_comma text place word) → IsWritten (with_comma text place []) form → IsJoinedForm text place word form
-  none : IsFaulty (with_comma text place word) → IsFaulty (with_comma text place []) → form ≡ []
+  other : IsFaulty (with_comma text place word) → IsFaulty (with_comma text place []) → form ≡ with_comma text place word
       → IsJoinedForm text place word form

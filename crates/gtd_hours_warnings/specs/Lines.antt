@@ -3,6 +3,7 @@ use Rattle.std.specs.Prelude.{ℕ, ◌==◌, List, [], ◌∷◌, ◌++◌, code
 use Rattle.gtd_hours_warnings.specs.declared.warnings.Warning.{Warning}
 use Rattle.gtd_hours_warnings.specs.declared.warnings.WarningKind.{WarningKind}
 use Rattle.gtd_hours_warnings.specs.declared.warnings.WarningKind.TheVariants.{Loose, Hides, KnownYears, Remark, NotKnown}
+use Rattle.gtd_hours_warnings.specs.declared.warnings.WarningKind.TheVariants.{WholeDay}
 
 abbrev pub kind_name : WarningKind → List ℕ
 kind_name Loose = codes "Loose"
@@ -10,6 +11,7 @@ kind_name Hides = codes "Hides"
 kind_name KnownYears = codes "KnownYears"
 kind_name Remark = codes "Remark"
 kind_name NotKnown = codes "NotKnown"
+kind_name WholeDay = codes "WholeDay"
 
 -- What a warning says of a form: a space is named, and of an empty one nothing is said.
 abbrev pub form_label : List ℕ → List ℕ

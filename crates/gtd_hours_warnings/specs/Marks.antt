@@ -6,7 +6,10 @@ use Rattle.gtd_hours_holidays.specs.declared.known_years.KnownYears.{KnownYears}
 use Rattle.gtd_hours_known.specs.declared.known.KnownHours.{KnownHours}
 use Rattle.gtd_hours_loose.specs.Mending.{strict_place}
 use Rattle.gtd_hours_loose.specs.declared.strict.StrictForm.{StrictForm}
-use Rattle.gtd_hours_warnings.specs.Warnings.{AddsAllHides, AddsLooseForm, put_in}
+use Rattle.gtd_hours_holiday_rules.specs.Reading.{IsHolidayText}
+use Rattle.gtd_hours_holiday_rules.specs.declared.text.HolidayText.{HolidayText}
+use Rattle.gtd_hours_items.specs.Comments.{IsBadPlace}
+use Rattle.gtd_hours_warnings.specs.Warnings.{AddsAllHides, AddsLooseForm, place_in, put_in, strict_text}
 use Rattle.gtd_hours_warnings.specs.declared.warnings.Warning.{Warning}
 use Rattle.gtd_hours_warnings.specs.declared.warnings.WarningKind.TheVariants as kind
 
@@ -57,6 +60,26 @@ AddsNotKnown [] before after = after ≡ before
 AddsNotKnown (place ∷ places) before after =
     (w : Warning) × IsNotKnownWarning place w × AddsNotKnown places (put_in w before) after
 
+-- ---- rules that hold all day
+
+-- The warning of a rule at this place that says days alone, and behind which a comma begins another rule: it holds all day.
+pub record IsWholeDayWarning (place : ℕ) (w : Warning) : Type 0 where
+  pub kind : w.kind ≡ kind.WholeDay
+  pub at : w.place ≡ place
+  pub form : w.form.items ≡ codes "open"
+
+-- Those of the rules at these places of a strict form are put to the warnings before.
+abbrev pub AddsWholeDaysAt : List ℕ → Option StrictForm → List ℕ → List Warning → List Warning → Type 0
+AddsWholeDaysAt text form [] before after = after ≡ before
+AddsWholeDaysAt text form (place ∷ places) before after =
+    (w : Warning) × IsWholeDayWarning (place_in text form place) w × AddsWholeDaysAt text form places (put_in w before) after
+
+-- Those of the text are; one with parentheses has none.
+pub data AddsWholeDays (text : List ℕ) (form : Option StrictForm) (before after : List Warning) : Type 0 where
+  read : (found : HolidayText) → IsHolidayText (strict_text text form) found
+      → AddsWholeDaysAt text form found.whole_days.items before after → AddsWholeDays text form before after
+  unread : (place : ℕ) → IsBadPlace (strict_text text form) place → after ≡ before → AddsWholeDays text form before after
+
 -- ---- holidays
 
 -- the years as a warning names them: `F-L`, also if they are the same
@@ -75,21 +98,25 @@ AddsYears place None before after = after ≡ before
 AddsYears place (Some years) before after =
     (w : Warning) × IsKnownYearsWarning place years w × (after ≡ put_in w before)
 
--- What is put last: of a text without a first holiday the warnings of the rules that hide hours, of another one the years.
-abbrev pub AddsLast : List ℕ → KnownHours → Option ℕ → Option KnownYears → List Warning → List Warning → Type 0
-AddsLast text read None years before after = AddsAllHides text read.hours read.form before after
-AddsLast text read (Some place) years before after = AddsYears place years before after
+-- Of a text without a first holiday, nothing is put for the years.
+abbrev pub AddsYearsIf : Option ℕ → Option KnownYears → List Warning → List Warning → Type 0
+AddsYearsIf None years before after = after ≡ before
+AddsYearsIf (Some place) years before after = AddsYears place years before after
 
 -- ---- all
 
 -- The warnings of a text from which these hours are read, if holidays are known in these years: of what is written loosely, in
--- its order; and put to these, each at its place, first those of its remarks, then those of its rules that are not known, and
--- then those of the rules that hide hours or, if it has a holiday, the years.
+-- its order; and put to these, each at its place, first those of its remarks, then those of its rules that are not known, those
+-- of its rules that say days alone, those of its rules that hide hours and, if it has a holiday, the years.
 pub record AreWarningsWith (text : List ℕ) (read : KnownHours) (years : Option KnownYears) (found : List Warning) : Type 0 where
   pub loose : List Warning
   pub remarked : List Warning
   pub marked : List Warning
+  pub whole : List Warning
+  pub hidden : List Warning
   pub are_loose : AddsLooseForm text read.form loose
   pub remarks : AddsRemarks text read.form read.remarks.items loose remarked
   pub unknowns : AddsNotKnown read.unknowns.items remarked marked
-  pub put : AddsLast text read read.first_holiday years marked found
+  pub days : AddsWholeDays text read.form marked whole
+  pub hides : AddsAllHides text read.hours read.form whole hidden
+  pub put : AddsYearsIf read.first_holiday years hidden found

@@ -5,7 +5,6 @@ use Rattle.std.specs.List.Sorted.{IsStrictlyIncreasing}
 use Rattle.gtd_hours.specs.declared.hours.Hours.{Hours}
 use Rattle.gtd_hours_hidden.specs.Hides.{Hides}
 use Rattle.gtd_hours_loose.specs.Mending.{is_loose, stretch, written_place}
-use Rattle.gtd_hours_loose.specs.declared.reader.LooseHours.{LooseHours}
 use Rattle.gtd_hours_loose.specs.declared.strict.Part.{Part}
 use Rattle.gtd_hours_loose.specs.declared.strict.StrictForm.{StrictForm}
 use Rattle.gtd_hours_warnings.specs.Commas.{rule_place, semicolon_of, word_before}
@@ -82,15 +81,6 @@ pub record AddsAllHides (text : List ℕ) (hours : Hours) (form : Option StrictF
   pub hide : (k : ℕ) → Contains rules k ↔ Hides hours.rules.items k
   pub in_order : IsStrictlyIncreasing rules
   pub put : AddsHides text hours form rules before after
-
--- ---- all
-
--- The warnings of a text from which these hours are read: of what is written loosely, in its order; and put to these, at their
--- places, those of the rules that hide hours.
-pub record AreWarnings (text : List ℕ) (read : LooseHours) (found : List Warning) : Type 0 where
-  pub loose : List Warning
-  pub are_loose : AddsLooseForm text read.form loose
-  pub put : AddsAllHides text read.hours read.form loose found
 
 -- ---- as the code goes
 

@@ -45,7 +45,7 @@ fn read_joined(
 }
 
 /// The hours of a text with a comma at a place, as they are strictly written: with the word before the comma or, if it does
-/// not go there, without it; nothing if neither is hours.
+/// not go there, without it; if neither is plain hours, the text with the word and the comma.
 pub(crate) fn joined_form(
     alloc: Global,
     text: &[u8],
@@ -60,6 +60,6 @@ pub(crate) fn joined_form(
     }
     match read_joined(alloc, text, place, b"")? {
         Some(hours) => written(alloc, &hours),
-        None => Ok(Vec::new(alloc)),
+        None => with_comma(alloc, text, place, word),
     }
 }

@@ -4,11 +4,11 @@
 
 mod commas;
 mod forms;
-pub mod laws;
 mod lines;
 mod marks;
 mod warnings;
+mod whole_days;
 
 pub use lines::{push_lines, push_text};
 pub use marks::warnings_with;
-pub use warnings::{Warning, WarningKind, warnings_of};
+pub use warnings::{Warning, WarningKind};

@@ -16,6 +16,7 @@ fn kind_name(kind: WarningKind) -> &'static [u8]
         WarningKind::KnownYears => b"KnownYears".as_slice(),
         WarningKind::Remark => b"Remark".as_slice(),
         WarningKind::NotKnown => b"NotKnown".as_slice(),
+        WarningKind::WholeDay => b"WholeDay".as_slice(),
     }
 }
 

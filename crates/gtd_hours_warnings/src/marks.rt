@@ -2,11 +2,12 @@
 
 ghost use Rattle.std.specs.Prelude.{◌≡◌, ◌≤◌, IfOk, OnOk, drop, length};
 ghost use Rattle.std.specs.List.{prefix_len};
-ghost use Rattle.gtd_hours_warnings.specs.Marks.{AddsLast, AddsNotKnown, AddsRemarks, AddsYears, AreWarningsWith};
+ghost use Rattle.gtd_hours_warnings.specs.Marks.{AddsNotKnown, AddsRemarks, AddsYears, AddsYearsIf, AreWarningsWith};
 ghost use Rattle.gtd_hours_warnings.specs.Marks.{IsKnownYearsWarning, IsNotKnownWarning, IsRemarkWarning, comment_at};
 ghost use Rattle.gtd_hours_warnings.specs.Marks.{is_unquoted, remark_at};
 
 use crate::warnings::{Warning, WarningKind, add_hides, form_warnings, put_in};
+use crate::whole_days::add_whole_days;
 use gtd_hours_holidays::KnownYears;
 use gtd_hours_known::KnownHours;
 use gtd_hours_loose::{StrictForm, strict_place};
@@ -176,28 +177,25 @@ fn add_years(
     }
 }
 
-// Adds the warnings of the rules that hide hours or, if there is a holiday, the years.
-fn add_last(
+// Adds the warning of the first holiday, if there is one.
+fn add_years_if(
     alloc: Global,
     warnings: &mut Vec<Warning>,
-    text: &[u8],
-    read: &KnownHours,
+    first_holiday: Option<usize>,
     years: Option<KnownYears>,
 ) -> Result<(), AllocError>
-    ensures { OnOk result
-        (AddsLast text.now read.now read.now.first_holiday years warnings.old.items warnings.new.items) }
+    ensures { OnOk result (AddsYearsIf first_holiday years warnings.old.items warnings.new.items) }
 {
-    match read.first_holiday {
-        None => add_hides(alloc, warnings, text, &read.hours, &read.form),
+    match first_holiday {
+        None => Ok(()),
         Some(place) => add_years(alloc, warnings, place, years),
     }
 }
 
 /// The warnings of a text from which these hours are read, in the order of their places: where it is written loosely; its
-/// comments on open rules without a word that says so, each with that word; its fallback rules that are unknown; and then, if it
-/// has no holiday, the rules that hide hours of an earlier one, each with the hours that stay if a comma stands before it, or
-/// else at its first holiday the years in which holidays are known, if they are given. `AllocError` is answered only if memory
-/// was refused.
+/// comments on open rules without a word that says so, each with that word; its fallback rules that are unknown; the rules that
+/// say days alone, and behind which a comma begins another rule; the rules that hide hours of an earlier one, each with the hours that stay if a comma stands before it; and at its first holiday the years in
+/// which holidays are known, if they are given. `AllocError` is answered only if memory was refused.
 pub fn warnings_with(
     alloc: Global,
     text: &[u8],
@@ -210,6 +208,8 @@ pub fn warnings_with(
     let remarks = read.remarks.as_slice();
     add_remarks(alloc, &mut warnings, text, &read.form, remarks)?;
     add_not_known(alloc, &mut warnings, read.unknowns.as_slice())?;
-    add_last(alloc, &mut warnings, text, read, years)?;
+    add_whole_days(alloc, &mut warnings, text, &read.form)?;
+    add_hides(alloc, &mut warnings, text, &read.hours, &read.form)?;
+    add_years_if(alloc, &mut warnings, read.first_holiday, years)?;
     Ok(warnings)
 }

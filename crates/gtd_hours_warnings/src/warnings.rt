@@ -2,14 +2,14 @@
 
 ghost use Rattle.std.specs.Prelude.{◌≡◌, ◌<◌, ◌≤◌, [], IfOk, OnOk, length};
 ghost use Rattle.std.specs.List.{prefix_len};
-ghost use Rattle.gtd_hours_warnings.specs.Warnings.{AddsAllHides, AddsLoose, AddsLooseForm, AreWarnings, IsHidesWarning};
+ghost use Rattle.gtd_hours_warnings.specs.Warnings.{AddsAllHides, AddsLoose, AddsLooseForm, IsHidesWarning};
 ghost use Rattle.gtd_hours_warnings.specs.Warnings.{IsLooseWarning, IsPutIf, is_by, place_in, put_in, strict_text};
 
 use crate::commas::{rule_place, semicolon_of, word_before};
 use crate::forms::joined_form;
 use gtd_hours::Hours;
 use gtd_hours_hidden::hiding_rules;
-use gtd_hours_loose::{LooseHours, Part, StrictForm, is_loose, stretch, written_place};
+use gtd_hours_loose::{Part, StrictForm, is_loose, stretch, written_place};
 use std::alloc::{AllocError, Global};
 
 /// What a warning is of.
@@ -25,6 +25,8 @@ pub enum WarningKind {
     Remark,
     /// A fallback rule of which it is not known whether it is open.
     NotKnown,
+    /// A rule that says days alone, and behind which a comma begins another rule: it holds all day.
+    WholeDay,
 }
 
 /// A warning of a text of opening hours.
@@ -36,12 +38,12 @@ pub struct Warning {
     /// comment that makes a fallback rule unknown.
     pub place: usize,
     /// What is written there strictly; or the hours with a comma before the rule, as they are strictly written; or the years; or
-    /// the comment behind the word that it lacks. It may be empty.
+    /// the comment behind the word that it lacks; or the word that a rule lacks. It may be empty.
     pub form: Vec<u8>,
 }
 
-// The text as it is strictly written.
-fn strict_text<'a>(text: &'a [u8], form: &'a Option<StrictForm>) -> &'a [u8]
+/// The text as it is strictly written.
+pub(crate) fn strict_text<'a>(text: &'a [u8], form: &'a Option<StrictForm>) -> &'a [u8]
     ensures { result.now ≡ strict_text text.now form.now }
 {
     match form {
@@ -50,8 +52,8 @@ fn strict_text<'a>(text: &'a [u8], form: &'a Option<StrictForm>) -> &'a [u8]
     }
 }
 
-// The place in the text of what begins here in its strict form.
-fn place_in(text: &[u8], form: &Option<StrictForm>, place: usize) -> usize
+/// The place in the text of what begins here in its strict form.
+pub(crate) fn place_in(text: &[u8], form: &Option<StrictForm>, place: usize) -> usize
     ensures { result ≡ place_in text.now form.now place }
 {
     match form {
@@ -185,19 +187,4 @@ pub(crate) fn add_hides(
         rest = later;
     }
     Ok(())
-}
-
-/// The warnings of a text from which these hours are read, in the order of their places: where it is written loosely; and the
-/// rules that hide hours of an earlier one, each with the hours that stay if a comma stands before it. `AllocError` is answered
-/// only if memory was refused.
-pub fn warnings_of(
-    alloc: Global,
-    text: &[u8],
-    read: &LooseHours,
-) -> Result<Vec<Warning>, AllocError>
-    ensures { IfOk result (λ found. AreWarnings text.now read.now found.items) }
-{
-    let mut warnings = form_warnings(alloc, text, &read.form)?;
-    add_hides(alloc, &mut warnings, text, &read.hours, &read.form)?;
-    Ok(warnings)
 }

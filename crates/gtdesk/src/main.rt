@@ -11,10 +11,11 @@
 use gtd_devices::{Host, HostOut, InputFault, read_whole};
 use gtd_hours_holidays::Holidays;
 use gtdesk_tool::{
-    ConditionsPlan, DiffPlan, Ending, Files, LineRefusal, Moment, OnePlan, Options, Plan,
-    RecordsPlan, Refusal, RefusalLines, RunRefusal, Turn, WordsRefusal, ZonePlan, joined,
-    moment_in_zone, no_options, no_zone, options_with, perform, perform_ask, perform_conditions,
-    perform_diff, plan, read_table, refused_file, refused_table, word_snippet, zone_path,
+    ConditionsPlan, ConditionsTurn, DiffPlan, Ending, Files, HoursOptions, LineRefusal, Moment,
+    OnePlan, Options, Plan, RecordsPlan, Refusal, RefusalLines, RunRefusal, Turn, WordsRefusal,
+    ZonePlan, joined, moment_in_zone, no_options, no_zone, options_with, perform, perform_ask,
+    perform_conditions, perform_diff, plan, read_table, refused_file, refused_table, word_snippet,
+    zone_path,
 };
 use std::fs::File;
 use std::io::{BufWriter, ErrorKind, Read};
@@ -116,18 +117,26 @@ fn table_at(rt: &HostRuntime, path: &str) -> Result<Option<Holidays>, RunRefusal
     }
 }
 
-// Carries the plan of `records` out, by its table of holidays, if one is given. If that is refused or at fault, no file follows.
-fn run_records(rt: &HostRuntime, plan: &OnePlan, records: &RecordsPlan) -> ExitCode {
-    let table = match &records.options.holidays {
+// The options with which texts of hours are read, by their table of holidays, if one is given. If that is refused or at fault,
+// this is told, and the answer is the status.
+fn options_by(rt: &HostRuntime, given: &HoursOptions) -> Result<Options, ExitCode> {
+    let table = match &given.holidays {
         Some(path) => match table_at(rt, path.as_str()) {
             Ok(Some(table)) => Some(table),
-            Ok(None) => return ExitCode::from(Ending::FaultsListed.status()),
-            Err(refusal) => return finish(rt, Err(refusal), path.as_str(), ""),
+            Ok(None) => return Err(ExitCode::from(Ending::FaultsListed.status())),
+            Err(refusal) => return Err(finish(rt, Err(refusal), path.as_str(), "")),
         },
         None => None,
     };
-    let options = options_with(table, &records.options);
-    run_files(rt, plan, &options, records.files.as_slice())
+    Ok(options_with(table, given))
+}
+
+// Carries the plan of `records` out. If its table of holidays is refused or at fault, no file follows.
+fn run_records(rt: &HostRuntime, plan: &OnePlan, records: &RecordsPlan) -> ExitCode {
+    match options_by(rt, &records.options) {
+        Ok(options) => run_files(rt, plan, &options, records.files.as_slice()),
+        Err(status) => status,
+    }
 }
 
 // Carries a plan out that reads one file at a time, or none.
@@ -262,7 +271,7 @@ fn run_both(rt: &HostRuntime, plan: &DiffPlan) -> ExitCode {
 // Carries the plan of `conditions` out, from two readers to standard output.
 fn print_conditions<R: Read + Drop, S: Read + Drop>(
     rt: &HostRuntime,
-    plan: &ConditionsPlan,
+    turn: ConditionsTurn<'_>,
     tags: R,
     means: S,
 ) -> Result<Ending, RunRefusal> {
@@ -273,7 +282,7 @@ fn print_conditions<R: Read + Drop, S: Read + Drop>(
     let mut errors = HostOut::new(rt.stderr());
     perform_conditions(
         rt.alloc(),
-        plan,
+        turn,
         &mut tags,
         &mut means,
         &mut output,
@@ -292,26 +301,35 @@ fn open_means(rt: &HostRuntime, path: &str) -> Result<File, RunRefusal> {
 // Carries the plan of `conditions` out, from the reader of the file of tags.
 fn run_conditions<R: Read + Drop>(
     rt: &HostRuntime,
-    plan: &ConditionsPlan,
+    turn: ConditionsTurn<'_>,
     tags: R,
 ) -> Result<Ending, RunRefusal> {
-    match plan.means.as_str() {
-        "-" => print_conditions(rt, plan, tags, rt.stdin()),
-        path => print_conditions(rt, plan, tags, open_means(rt, path)?),
+    match turn.plan.means.as_str() {
+        "-" => print_conditions(rt, turn, tags, rt.stdin()),
+        path => print_conditions(rt, turn, tags, open_means(rt, path)?),
     }
 }
 
 // Carries the plan of `conditions` out, from the paths of its files.
-fn run_tags(rt: &HostRuntime, plan: &ConditionsPlan) -> Result<Ending, RunRefusal> {
-    match plan.tags.as_str() {
-        "-" => run_conditions(rt, plan, rt.stdin()),
-        path => run_conditions(rt, plan, open(rt, path)?),
+fn run_tags(rt: &HostRuntime, turn: ConditionsTurn<'_>) -> Result<Ending, RunRefusal> {
+    match turn.plan.tags.as_str() {
+        "-" => run_conditions(rt, turn, rt.stdin()),
+        path => run_conditions(rt, turn, open(rt, path)?),
     }
 }
 
-// Carries the plan of `conditions` out, and tells why one of its files is refused.
+// Carries the plan of `conditions` out, and tells why one of its files is refused. If its table of holidays is, the others are
+// not read.
 fn run_tags_and_means(rt: &HostRuntime, plan: &ConditionsPlan) -> ExitCode {
-    let answer = run_tags(rt, plan);
+    let options = match options_by(rt, &plan.options) {
+        Ok(options) => options,
+        Err(status) => return status,
+    };
+    let turn = ConditionsTurn {
+        plan,
+        options: &options,
+    };
+    let answer = run_tags(rt, turn);
     let path = match answer {
         Err(refusal) => refused_table(plan, refusal),
         Ok(_) => "",

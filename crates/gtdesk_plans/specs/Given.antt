@@ -68,9 +68,9 @@ faults_form rows =
     warned_form (is_given (codes "warn") rows) (has_value (codes "allow") rows) (has_value (codes "at") rows)
     (texts_of (codes "FILE") rows)
 
--- `records` of files, where the table of holidays may be standard input: then none of the files is.
-abbrev pub records_form : Bool → List Text → Result Form Misuse
-records_form table files = if table && has_input files then Err misuse.InputTwice else form_with form.Records files
+-- A form of files, where the table of holidays may be standard input: then none of the files is.
+abbrev pub tabled_form : Form → Bool → List Text → Result Form Misuse
+tabled_form form table files = if table && has_input files then Err misuse.InputTwice else form_with form files
 
 -- `hours` of a text or of a domain, of which one is given; options of texts go with a text.
 abbrev pub hours_form : Bool → Bool → Bool → Result Form Misuse
@@ -116,9 +116,11 @@ form_in found =
     else if bytes_eq found.0 (codes "same") then same_form found.1
     else if bytes_eq found.0 (codes "diff") then Ok form.Diff
     else if bytes_eq found.0 (codes "ask") then Ok form.Ask
-    else if bytes_eq found.0 (codes "records") then records_form (is_input (first_of (codes "holidays") found.1)) (texts_of (codes "FILE") found.1)
+    else if bytes_eq found.0 (codes "records")
+    then tabled_form form.Records (is_input (first_of (codes "holidays") found.1)) (texts_of (codes "FILE") found.1)
     else if bytes_eq found.0 (codes "conditions")
-    then form_with form.Conditions (text_of (codes "TAGS") found.1 ∷ text_of (codes "MEANS") found.1 ∷ [])
+    then tabled_form form.Conditions (is_input (first_of (codes "holidays") found.1))
+    (text_of (codes "TAGS") found.1 ∷ text_of (codes "MEANS") found.1 ∷ [])
     else if bytes_eq found.0 (codes "mend") then mend_form found.1
     else if bytes_eq found.0 (codes "picture") then Ok form.Picture
     else if bytes_eq found.0 (codes "picture-domain") then Ok form.PictureDomain

@@ -1,16 +1,16 @@
 //! The forms of commands.
 
-ghost use Rattle.std.specs.Prelude.{◌≡◌, codes, is_ok, map};
+ghost use Rattle.std.specs.Prelude.{◌≡◌, ◌∷◌, [], codes, is_ok, map};
 ghost use Rattle.clap.specs.Matches.{found_of};
 ghost use Rattle.clap.specs.Walk.{first_of, rows_of};
 ghost use Rattle.gtd_moments.specs.Moments.{moment_in};
 ghost use Rattle.gtdesk_plans.specs.Given as spec;
 ghost use Rattle.gtdesk_plans.specs.Rows as rows_spec;
-ghost use Rattle.gtdesk_plans.specs.Rows.{texts_of};
+ghost use Rattle.gtdesk_plans.specs.Rows.{text_of, texts_of};
 
 use crate::given::{
-    but_last, from_last, has_value, is_given, is_input, is_once, is_read_once, reads_input, text,
-    value, values,
+    but_last, from_last, has_input, has_value, is_given, is_input, is_once, is_read_once,
+    reads_input, text, value, values,
 };
 use crate::options::has_text_options;
 use clap::ArgMatches;
@@ -118,7 +118,8 @@ fn form_with(form: Form, given: &ArgMatches<'_>, name: &str) -> Result<Form, Mis
 
 // The form of `records`, whose table of holidays may be standard input.
 fn records_form(given: &ArgMatches<'_>) -> Result<Form, Misuse>
-    ensures { result ≡ spec.records_form (rows_spec.is_input (first_of (codes "holidays") (rows_of (found_of given.now))))
+    ensures { result ≡ spec.tabled_form Form.Records
+        (rows_spec.is_input (first_of (codes "holidays") (rows_of (found_of given.now))))
         (texts_of (codes "FILE") (rows_of (found_of given.now))) }
 {
     if is_input(value(given, "holidays")) && reads_input(given, "FILE") {
@@ -136,6 +137,19 @@ fn form_of_files(form: Form, files: &[&str]) -> Result<Form, Misuse>
     } else {
         Err(Misuse::InputTwice)
     }
+}
+
+// The form of `conditions`, whose table of holidays may be standard input.
+fn conditions_form(given: &ArgMatches<'_>) -> Result<Form, Misuse>
+    ensures { result ≡ spec.tabled_form Form.Conditions
+        (rows_spec.is_input (first_of (codes "holidays") (rows_of (found_of given.now))))
+        (text_of (codes "TAGS") (rows_of (found_of given.now)) ∷ text_of (codes "MEANS") (rows_of (found_of given.now)) ∷ []) }
+{
+    let files = [text(given, "TAGS"), text(given, "MEANS")];
+    if is_input(value(given, "holidays")) && has_input(&files) {
+        return Err(Misuse::InputTwice);
+    }
+    form_of_files(Form::Conditions, &files)
 }
 
 // The form of `now` with these words, of which the last but one is to be a moment.
@@ -300,10 +314,7 @@ pub(crate) fn form_of(name: &str, given: &ArgMatches<'_>) -> Result<Form, Misuse
         "diff" => Ok(Form::Diff),
         "ask" => Ok(Form::Ask),
         "records" => records_form(given),
-        "conditions" => form_of_files(
-            Form::Conditions,
-            &[text(given, "TAGS"), text(given, "MEANS")],
-        ),
+        "conditions" => conditions_form(given),
         "mend" => mend_form(given),
         "picture" => Ok(Form::Picture),
         "picture-domain" => Ok(Form::PictureDomain),

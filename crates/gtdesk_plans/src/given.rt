@@ -118,8 +118,8 @@ pub(crate) fn has_value(given: &ArgMatches<'_>, name: &str) -> bool
     }
 }
 
-// Whether standard input is among these files.
-fn has_input(files: &[&str]) -> bool
+/// Whether standard input is among these files.
+pub(crate) fn has_input(files: &[&str]) -> bool
     ensures { result ≡ spec.has_input (map (λ f. f.now) files.now) }
 {
     match files {

@@ -5,10 +5,12 @@ use Rattle.gtd_conditional_file.specs.Warned.{IsWarned}
 use Rattle.gtd_conditional_file.specs.declared.converted.Converted.{Converted}
 use Rattle.gtd_conditional_file.specs.declared.unconverted.Unconverted.{Unconverted}
 use Rattle.gtd_conditional_file.specs.declared.unconverted.Unconverted.TheVariants as run
+use Rattle.gtd_hours_options.specs.Readings.{HowRead}
+use Rattle.gtd_hours_options.specs.declared.options.Options.{Options}
 use Rattle.gtd_records.specs.declared.fault.RecordFault.TheVariants as records
 use Rattle.gtdesk_plans.specs.declared.commands.conditions.ConditionsPlan.{ConditionsPlan}
-use Rattle.gtdesk_tool.specs.LooseHours.{manner_of}
 use Rattle.gtdesk_tool.specs.Telling.{IsUntold, Telling, Told, ToldIfSome}
+use Rattle.gtdesk_tool.specs.TextHours.{manner_in}
 use Rattle.gtdesk_tool.specs.declared.ending.Ending.{Ending}
 use Rattle.gtdesk_tool.specs.declared.ending.Ending.TheVariants as ending
 use Rattle.gtdesk_tool.specs.declared.refusal.RunRefusal.{RunRefusal}
@@ -35,13 +37,17 @@ IsAnswerTold errors other = IsUntold errors
 abbrev pub paths_of_plan : ConditionsPlan → TwoPaths
 paths_of_plan plan = record { tags = string_bytes plan.tags; means = string_bytes plan.means }
 
+-- how the hours in conditions are read
+abbrev pub hours_of_plan : ConditionsPlan → Options → HowRead
+hours_of_plan plan options = record { manner = manner_in plan.options; options = options }
+
 -- The run of `conditions` had an answer, and all that the run promises for this answer holds.
-pub record RanConditions (plan : ConditionsPlan) (tags means before after : Option (List ℕ))
+pub record RanConditions (plan : ConditionsPlan) (options : Options) (tags means before after : Option (List ℕ))
     (tags_silent means_silent ended : Bool) (errors : Telling) (result : Result Ending RunRefusal) : Type 0 where
   pub answer : Result Converted Unconverted
   pub outcome : result ≡ conditions_outcome (lines_of answer)
-  pub converted : HasConverted (manner_of plan.strict plan.names) (paths_of_plan plan) means tags before after (lines_of answer)
-  pub warned : IsWarned (manner_of plan.strict plan.names) (paths_of_plan plan) means tags answer
+  pub converted : HasConverted (hours_of_plan plan options) (paths_of_plan plan) means tags before after (lines_of answer)
+  pub warned : IsWarned (hours_of_plan plan options) (paths_of_plan plan) means tags answer
   pub told : IsAnswerTold errors answer
   pub whole : OnOk answer (IsTrue ended)
   pub tags_endless : IsErrOf answer run.TagsEndless → IsTrue tags_silent

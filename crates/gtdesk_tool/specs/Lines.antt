@@ -1,18 +1,17 @@
 -- The lines for standard error that report a refusal.
-use Rattle.std.specs.Prelude.{◌++◌, ℕ, ℤ, List, [], Some, None, codes, decimal, if◌then◌else◌, int_lt}
+use Rattle.std.specs.Prelude.{◌++◌, ℕ, List, Some, None, codes, decimal}
 use Rattle.gtd_ask.specs.Texts.{question_fault_text}
 use Rattle.gtd_calendar.specs.declared.stamp.StampFault.{StampFault}
 use Rattle.gtd_calendar.specs.declared.stamp.StampFault.TheVariants as moment
-use Rattle.gtd_calendar.specs.Stamp.{date_text}
-use Rattle.gtd_core.specs.Limits.{first_calendar_day, last_calendar_day}
 use Rattle.gtd_core.specs.Names.{fault_name}
 use Rattle.gtd_core.specs.declared.horizon.HorizonFault.{HorizonFault}
 use Rattle.gtd_core.specs.declared.horizon.HorizonFault.TheVariants as horizon
 use Rattle.gtd_faults.specs.Listing.{fault_text}
 use Rattle.gtd_faults.specs.Printable.{printable}
-use Rattle.gtd_hours_file.specs.Refused.{refusal_snippet}
-use Rattle.gtd_hours_file.specs.declared.refused.RefusalSnippet.{RefusalSnippet}
-use Rattle.gtd_hours_grammar.specs.KindNames.{kind_name}
+use Rattle.gtd_hours_faults.specs.Refused.{refusal_snippet}
+use Rattle.gtd_hours_faults.specs.Words as of_hours
+use Rattle.gtd_hours_faults.specs.Words.{place_in}
+use Rattle.gtd_hours_faults.specs.declared.refused.RefusalSnippet.{RefusalSnippet}
 use Rattle.gtdesk_words.specs.declared.refusal.NoDomain.{NoDomain}
 use Rattle.gtdesk_words.specs.declared.refusal.NoDomain.TheVariants as none
 use Rattle.gtdesk_words.specs.declared.refusal.Reason.{Reason}
@@ -46,25 +45,10 @@ date_reason moment.Shape = codes "not of the form YYYY-MM-DD"
 date_reason moment.NoSuchDate = codes "no such date"
 date_reason moment.Range = codes "not from 1901-01-01 to 2700-01-01"
 
--- a day as a date; nothing, if the calendar has none
-abbrev pub day_text : ℤ → List ℕ
-day_text day =
-    if int_lt day first_calendar_day then []
-    else if int_lt last_calendar_day day then []
-    else printable (date_text day)
-
 -- why it has no domain: its first fault and the place, or that the domain is too large
 abbrev pub no_domain_text : NoDomain → List ℕ
-no_domain_text (none.Fault why) = kind_name why.kind ++ codes " at " ++ decimal why.place
-no_domain_text (none.Ambiguous place) = codes "Ambiguous at " ++ decimal place
-no_domain_text (none.Holidays place) = codes "Holidays at " ++ decimal place
-no_domain_text (none.Years place) = codes "Years at " ++ decimal place
-no_domain_text (none.Uncovered place day) = codes "Uncovered at " ++ (decimal place ++ (codes ": " ++ day_text day))
-no_domain_text (none.Unknown place) = codes "Unknown at " ++ decimal place
-no_domain_text (none.OpenEnd place) = codes "OpenEnd at " ++ decimal place
-no_domain_text (none.Point place) = codes "Point at " ++ decimal place
-no_domain_text (none.SunTime place) = codes "SunTime at " ++ decimal place
-no_domain_text none.TooMany = codes "TooMany at 0"
+no_domain_text (none.Fault why) = of_hours.fault_text (place_in why) why
+no_domain_text (none.TooMany needed) = codes "TooMany at 0"
 
 -- the name of a word
 abbrev pub word_name : WordName → List ℕ

@@ -8,16 +8,9 @@ use Rattle.gtd_hours_holidays.specs.Table.{IsTable}
 use Rattle.gtd_hours_holidays.specs.declared.fault.HolidaysFault.{HolidaysFault}
 use Rattle.gtd_hours_holidays.specs.declared.holidays.Holidays.{Holidays}
 use Rattle.gtd_hours_holidays.specs.declared.known_years.KnownYears.{KnownYears}
-use Rattle.gtd_hours_grammar.specs.declared.fault.FaultKind.TheVariants as kind
-use Rattle.gtd_hours_known.specs.declared.fault.KnownFault.{KnownFault}
-use Rattle.gtd_hours_known.specs.declared.fault.KnownFault.TheVariants as fault
 use Rattle.gtd_hours_known.specs.declared.known.KnownHours.{KnownHours}
 use Rattle.gtd_hours_loose.specs.declared.manner.Manner.{Manner}
-use Rattle.gtd_hours_moments.specs.declared.needs.NeedKind.{NeedKind}
-use Rattle.gtd_hours_moments.specs.declared.needs.NeedKind.TheVariants as need
 use Rattle.gtd_hours_options.specs.Manners.{IsReadFaultWithIn, IsReadingWithIn}
-use Rattle.gtd_hours_options.specs.declared.fault.OptionsFault.{OptionsFault}
-use Rattle.gtd_hours_options.specs.declared.fault.OptionsFault.TheVariants as wrong
 use Rattle.gtd_hours_options.specs.declared.fault.OptionsReadFault.{OptionsReadFault}
 use Rattle.gtd_hours_options.specs.declared.fault.OptionsReadFault.TheVariants as reading
 use Rattle.gtd_hours_options.specs.declared.options.Options.{Options}
@@ -34,7 +27,6 @@ use Rattle.gtdesk_tool.specs.declared.ending.Ending.{Ending}
 use Rattle.gtdesk_tool.specs.declared.ending.Ending.TheVariants as ending
 use Rattle.gtdesk_tool.specs.declared.refusal.RunRefusal.{RunRefusal}
 use Rattle.gtdesk_tool.specs.declared.refusal.RunRefusal.TheVariants as refusal
-use Rattle.gtdesk_words.specs.declared.refusal.NoDomain.{NoDomain}
 use Rattle.gtdesk_words.specs.declared.refusal.NoDomain.TheVariants as none
 
 -- ---- what is given
@@ -75,28 +67,9 @@ pub record AreLinesWith (options : Options) (how : Manner) (text : Text) (domain
 
 -- ---- a text that is refused
 
--- why a text has no domain, from its first fault
-abbrev pub known_fault : KnownFault → NoDomain
-known_fault (fault.Hours why) = none.Fault why
-known_fault (fault.Ambiguous place) = none.Ambiguous place
-known_fault (fault.Holidays place) = none.Holidays place
-known_fault (fault.Years place) = none.Years place
-known_fault (fault.Uncovered place day) = none.Uncovered place day
-known_fault (fault.Unknown place) = none.Unknown place
-
-abbrev pub need_fault : NeedKind → ℕ → NoDomain
-need_fault need.SunTime place = none.SunTime place
-need_fault need.Range place = none.Fault (record { kind = kind.Range; place = place })
-need_fault need.OpenEnd place = none.OpenEnd place
-need_fault need.Point place = none.Point place
-
-abbrev pub no_domain : OptionsFault → NoDomain
-no_domain (wrong.Known bad) = known_fault bad
-no_domain (wrong.Time bad) = need_fault bad.kind bad.place
-
 -- The refusal of a text that is not read.
 abbrev pub unread : OptionsReadFault → RunRefusal
-unread (reading.Fault why) = refusal.NoDomain (no_domain why)
+unread (reading.Fault why) = refusal.NoDomain (none.Fault why)
 unread reading.NoMemory = refusal.Memory
 
 -- The refusal gives the first fault of the text, or is of memory.

@@ -12,6 +12,7 @@ use crate::loose_hours::manner_of;
 use crate::refusal::RunRefusal;
 use gtd_conditional_file::{ConditionsReading, Converted, Paths, Unconverted, run_conditions};
 use gtd_devices::{Input, Output};
+use gtd_hours_options::{HoursReading, Options};
 use gtd_records::RecordFault;
 use gtdesk_plans::ConditionsPlan;
 use std::alloc::Global;
@@ -45,6 +46,15 @@ fn tell_answer<E: Output>(errors: &mut E, answer: &Result<Converted, Unconverted
     }
 }
 
+/// A plan of `conditions`, and the options with which opening hours in conditions are read.
+#[derive(Clone, Copy)]
+pub struct ConditionsTurn<'a> {
+    /// The plan.
+    pub plan: &'a ConditionsPlan,
+    /// The options.
+    pub options: &'a Options,
+}
+
 /// Carries the plan of `conditions` out: puts the record file that a file of tags of ways stands for by a table of means, both of
 /// which inputs bring, and ends the output. Then it tells the warnings of the hours in values on the output for errors. Or it
 /// tells the list of all faults there, and puts nothing: of the table, if it has any, and otherwise of the file of tags and its
@@ -55,7 +65,7 @@ fn tell_answer<E: Output>(errors: &mut E, answer: &Result<Converted, Unconverted
 /// put; `Memory` if memory was refused. Before the call, the failures of each device must be below `u64::MAX`.
 pub fn perform_conditions<I: Input, J: Input, O: Output, E: Output>(
     alloc: Global,
-    plan: &ConditionsPlan,
+    turn: ConditionsTurn<'_>,
     tags: &mut I,
     means: &mut J,
     output: &mut O,
@@ -66,7 +76,7 @@ pub fn perform_conditions<I: Input, J: Input, O: Output, E: Output>(
     requires writable { O.failure_count output.old < u64.MAX }
     requires tellable { E.failure_count errors.old < u64.MAX }
     // What the output took, and what the output for errors took, by the answer.
-    ensures ran { RanConditions plan.now (I.to_come tags.old) (J.to_come means.old) (O.taken output.old) (O.taken output.new)
+    ensures ran { RanConditions turn.entry.plan.now turn.entry.options.now (I.to_come tags.old) (J.to_come means.old) (O.taken output.old) (O.taken output.new)
         (I.may_fall_silent tags.old) (J.may_fall_silent means.old) (O.is_ended output.new)
         (telling (E.taken errors.old) (E.taken errors.new) (E.failure_count errors.old) (E.failure_count errors.new)) result }
     // Each failure of an input or of the output is told, and nothing else is told as one.
@@ -74,12 +84,16 @@ pub fn perform_conditions<I: Input, J: Input, O: Output, E: Output>(
     ensures means_faults { J.failure_count means.new ≡ failures_after_means result (J.failure_count means.old) }
     ensures write_faults { O.failure_count output.new ≡ failures_after_write result (O.failure_count output.old) }
 {
+    let plan = turn.plan;
     let reading = ConditionsReading {
         paths: Paths {
             tags: plan.tags.as_str(),
             means: plan.means.as_str(),
         },
-        manner: manner_of(plan.strict, plan.names),
+        hours: HoursReading {
+            manner: manner_of(plan.options.strict, plan.options.names),
+            options: turn.options,
+        },
     };
     let answer = run_conditions(alloc, tags, means, output, reading);
     tell_answer(errors, &answer);

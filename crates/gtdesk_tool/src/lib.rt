@@ -26,7 +26,7 @@ mod text_hours;
 mod zone;
 
 pub use ask::perform_ask;
-pub use conditions::perform_conditions;
+pub use conditions::{ConditionsTurn, perform_conditions};
 pub use diff::perform_diff;
 pub use ending::{Ending, joined};
 pub use gtd_hours_options::Options;

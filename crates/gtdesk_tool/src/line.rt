@@ -2,14 +2,14 @@
 
 ghost use Rattle.std.specs.Prelude.{◌≡◌, Some};
 ghost use Rattle.gtdesk_tool.specs.Lines as spec;
-ghost use Rattle.gtdesk_tool.specs.Lines.{day_text, no_domain_text, reason_text, refusal_lines, run_text, word_text, words_text};
+ghost use Rattle.gtdesk_tool.specs.Lines.{no_domain_text, reason_text, refusal_lines, run_text, word_text, words_text};
 
 use crate::refusal::{Refusal, RunRefusal};
 use gtd_ask::QuestionText;
-use gtd_calendar::{FIRST_CALENDAR_DAY, LAST_CALENDAR_DAY, StampFault, write_date};
+use gtd_calendar::StampFault;
 use gtd_core::HorizonFault;
 use gtd_faults::{FaultText, Printable};
-use gtd_hours_file::RefusalSnippet;
+use gtd_hours_faults::{OptionsFaultText, RefusalSnippet, place_in};
 use gtdesk_words::{NoDomain, Reason, WordFault, WordName, WordsRefusal};
 use std::fmt;
 use std::fmt::{Display, Formatter};
@@ -67,25 +67,6 @@ fn date_reason(fault: StampFault) -> &'static str
     }
 }
 
-/// A day as a date; nothing, if the calendar has none.
-#[derive(Drop)]
-struct DayText(i64);
-
-impl Display for DayText {
-    ghost output = { λ shown. Some (day_text shown.0) };
-
-    fn fmt<W: fmt::Write>(&self, f: &mut Formatter<W>) -> fmt::Result {
-        if self.0 < FIRST_CALENDAR_DAY {
-            return Ok(());
-        }
-        if LAST_CALENDAR_DAY < self.0 {
-            return Ok(());
-        }
-        let date = write_date(self.0);
-        write!(f, "{}", Printable(&date))
-    }
-}
-
 /// Why a text of opening hours has no domain.
 #[derive(Drop)]
 struct TextLine(NoDomain);
@@ -96,22 +77,13 @@ impl Display for TextLine {
     fn fmt<W: fmt::Write>(&self, f: &mut Formatter<W>) -> fmt::Result {
         match self.0 {
             NoDomain::Fault(fault) => {
-                let kind = fault.kind.name();
-                let place = fault.place;
-                write!(f, "{kind} at {place}")
+                let words = OptionsFaultText {
+                    fault,
+                    place: place_in(fault),
+                };
+                write!(f, "{words}")
             }
-            NoDomain::Ambiguous { place } => write!(f, "Ambiguous at {place}"),
-            NoDomain::Holidays { place } => write!(f, "Holidays at {place}"),
-            NoDomain::Years { place } => write!(f, "Years at {place}"),
-            NoDomain::Uncovered { place, day } => {
-                let day = DayText(day);
-                write!(f, "Uncovered at {place}: {day}")
-            }
-            NoDomain::Unknown { place } => write!(f, "Unknown at {place}"),
-            NoDomain::OpenEnd { place } => write!(f, "OpenEnd at {place}"),
-            NoDomain::Point { place } => write!(f, "Point at {place}"),
-            NoDomain::SunTime { place } => write!(f, "SunTime at {place}"),
-            NoDomain::TooMany => write!(f, "TooMany at 0"),
+            NoDomain::TooMany { .. } => write!(f, "TooMany at 0"),
         }
     }
 }

@@ -18,9 +18,11 @@ use crate::refusal::RunRefusal;
 use gtd_core::Domain;
 use gtd_devices::Output;
 use gtd_hours::Hours;
-use gtd_hours_domain::{TranslationFault, domain_of};
+use gtd_hours_domain::{TranslationFault, cost_of, domain_of};
+use gtd_hours_known::KnownFault;
 use gtd_hours_loose::{LooseFault, LooseHours, LooseReadFault, Manner, read_hours_in};
 use gtd_hours_loose_tokens::DayNames;
+use gtd_hours_options::OptionsFault;
 use gtd_text::print_domain;
 use gtdesk_words::NoDomain;
 use std::alloc::{AllocError, Global};
@@ -46,16 +48,23 @@ pub(crate) fn manner_of(strict: bool, names: DayNames) -> Manner
     }
 }
 
+// A fault of a text that is read without options, as one with them.
+fn loose_fault(fault: LooseFault) -> OptionsFault
+    ensures { result ≡ spec.loose_fault fault }
+{
+    match fault {
+        LooseFault::Hours(fault) => OptionsFault::Known(KnownFault::Hours(fault)),
+        LooseFault::Ambiguous { place } => OptionsFault::Known(KnownFault::Ambiguous { place }),
+    }
+}
+
 // Why a text is not read.
 fn unread(fault: LooseReadFault) -> RunRefusal
     ensures { result ≡ spec.unread fault }
 {
     match fault {
-        LooseReadFault::Fault(LooseFault::Hours(fault)) => {
-            RunRefusal::NoDomain(NoDomain::Fault(fault))
-        }
-        LooseReadFault::Fault(LooseFault::Ambiguous { place }) => {
-            RunRefusal::NoDomain(NoDomain::Ambiguous { place })
+        LooseReadFault::Fault(fault) => {
+            RunRefusal::NoDomain(NoDomain::Fault(loose_fault(fault)))
         }
         LooseReadFault::NoMemory => RunRefusal::Memory,
     }
@@ -79,7 +88,9 @@ fn domain_with(alloc: Global, hours: &Hours) -> Result<Domain, RunRefusal>
 {
     match domain_of(alloc, hours) {
         Ok(domain) => Ok(domain),
-        Err(TranslationFault::TooMany) => Err(RunRefusal::NoDomain(NoDomain::TooMany)),
+        Err(TranslationFault::TooMany) => Err(RunRefusal::NoDomain(NoDomain::TooMany {
+            needed: cost_of(hours),
+        })),
         Err(TranslationFault::NoMemory) => Err(RunRefusal::Memory),
     }
 }

@@ -16,14 +16,13 @@ use crate::refusal::RunRefusal;
 use gtd_core::limits::MOST_FILE_BYTES;
 use gtd_devices::{Input, InputFault, Output, read_whole};
 use gtd_faults::Printable;
-use gtd_hours_grammar::{FaultKind, HoursFault};
 use gtd_hours_holidays::{
     Holidays, HolidaysFault, HolidaysFaultText, KnownYears, Unread, read_holidays,
 };
-use gtd_hours_known::{Known, KnownFault, KnownHours};
+use gtd_hours_known::{Known, KnownHours};
 use gtd_hours_loose::Manner;
-use gtd_hours_moments::{Clocks, NeedKind};
-use gtd_hours_options::{Options, OptionsFault, OptionsReadFault, read_hours_with_in};
+use gtd_hours_moments::Clocks;
+use gtd_hours_options::{Options, OptionsReadFault, read_hours_with_in};
 use gtd_hours_warnings::{push_lines, warnings_with};
 use gtd_records::RecordFault;
 use gtdesk_plans::{HoursOptions, HoursPlan};
@@ -77,47 +76,8 @@ fn unread(fault: OptionsReadFault) -> RunRefusal
     ensures { result ≡ spec.unread fault }
 {
     match fault {
-        OptionsReadFault::Fault(fault) => RunRefusal::NoDomain(no_domain(fault)),
+        OptionsReadFault::Fault(fault) => RunRefusal::NoDomain(NoDomain::Fault(fault)),
         OptionsReadFault::NoMemory => RunRefusal::Memory,
-    }
-}
-
-// The same for its first fault.
-fn no_domain(fault: OptionsFault) -> NoDomain
-    ensures { result ≡ spec.no_domain fault }
-{
-    match fault {
-        OptionsFault::Known(bad) => known_fault(bad),
-        OptionsFault::Time(need) => need_fault(need.kind, need.place),
-    }
-}
-
-// The same for a fault of its words, and for what is not known of its holidays.
-fn known_fault(fault: KnownFault) -> NoDomain
-    ensures { result ≡ spec.known_fault fault }
-{
-    match fault {
-        KnownFault::Hours(fault) => NoDomain::Fault(fault),
-        KnownFault::Ambiguous { place } => NoDomain::Ambiguous { place },
-        KnownFault::Holidays { place } => NoDomain::Holidays { place },
-        KnownFault::Years { place } => NoDomain::Years { place },
-        KnownFault::Uncovered { place, day } => NoDomain::Uncovered { place, day },
-        KnownFault::Unknown { place } => NoDomain::Unknown { place },
-    }
-}
-
-// The same for what is not given for its times.
-fn need_fault(kind: NeedKind, place: usize) -> NoDomain
-    ensures { result ≡ spec.need_fault kind place }
-{
-    match kind {
-        NeedKind::SunTime => NoDomain::SunTime { place },
-        NeedKind::Range => NoDomain::Fault(HoursFault {
-            kind: FaultKind::Range,
-            place,
-        }),
-        NeedKind::OpenEnd => NoDomain::OpenEnd { place },
-        NeedKind::Point => NoDomain::Point { place },
     }
 }
 

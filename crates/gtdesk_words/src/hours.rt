@@ -4,12 +4,14 @@ ghost use Rattle.std.specs.Prelude.{◌≡◌, ◌⊎◌, ◌<◌, IfErr, IfOk, 
 ghost use Rattle.gtd_core.specs.Limits.{most_basic_domains};
 ghost use Rattle.gtd_hours.specs.Cost.{hours_cost};
 ghost use Rattle.gtd_hours_text.specs.Standing.{StandsFor};
-ghost use Rattle.gtdesk_words.specs.HoursWords.{IsHoursDomain, IsNoDomainOf, IsTranslation};
+ghost use Rattle.gtdesk_words.specs.HoursWords.{IsHoursDomain, IsNoDomainOf, IsTranslation, too_many};
 
 use crate::refusal::NoDomain;
 use gtd_core::Domain;
 use gtd_hours::Hours;
-use gtd_hours_domain::{TranslationFault, domain_of};
+use gtd_hours_domain::{TranslationFault, cost_of, domain_of};
+use gtd_hours_known::KnownFault;
+use gtd_hours_options::OptionsFault;
 use gtd_hours_text::{HoursTextFault, read_hours};
 use std::alloc::Global;
 
@@ -20,7 +22,9 @@ fn hours_in(alloc: Global, text: &str) -> Result<Hours, Option<NoDomain>>
 {
     match read_hours(alloc, text.as_bytes()) {
         Ok(hours) => Ok(hours),
-        Err(HoursTextFault::Fault(fault)) => Err(Some(NoDomain::Fault(fault))),
+        Err(HoursTextFault::Fault(fault)) => {
+            Err(Some(NoDomain::Fault(OptionsFault::Known(KnownFault::Hours(fault)))))
+        }
         Err(HoursTextFault::NoMemory) => Err(None),
     }
 }
@@ -29,11 +33,13 @@ fn hours_in(alloc: Global, text: &str) -> Result<Hours, Option<NoDomain>>
 fn domain_with(alloc: Global, hours: &Hours) -> Result<Domain, Option<NoDomain>>
     ensures same { IfOk result (IsTranslation hours.now) }
     ensures cause { IfErr result (λ why. (why ≡ None)
-        ⊎ ((why ≡ Some NoDomain.TooMany) × (most_basic_domains < hours_cost hours.now))) }
+        ⊎ ((why ≡ Some (too_many hours.now)) × (most_basic_domains < hours_cost hours.now))) }
 {
     match domain_of(alloc, hours) {
         Ok(domain) => Ok(domain),
-        Err(TranslationFault::TooMany) => Err(Some(NoDomain::TooMany)),
+        Err(TranslationFault::TooMany) => Err(Some(NoDomain::TooMany {
+            needed: cost_of(hours),
+        })),
         Err(TranslationFault::NoMemory) => Err(None),
     }
 }

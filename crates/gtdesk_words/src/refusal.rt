@@ -5,7 +5,7 @@ ghost use Rattle.gtdesk_words.specs.Statuses.{words_status};
 
 use gtd_calendar::StampFault;
 use gtd_core::{HorizonFault, TextFault};
-use gtd_hours_grammar::HoursFault;
+use gtd_hours_options::OptionsFault;
 
 /// A word of a command, by the name that a refusal gives it.
 #[derive(Clone, Copy, Debug, PartialEq, Eq)]
@@ -59,52 +59,13 @@ pub enum WordName {
 /// Why a text of opening hours has no time domain.
 #[derive(Clone, Copy, Debug, PartialEq, Eq)]
 pub enum NoDomain {
-    /// The text is no opening hours. This is its first fault.
-    Fault(HoursFault),
-    /// People read the text in two ways. No text that is read strictly is refused for this.
-    Ambiguous {
-        /// The number of bytes before the place.
-        place: usize,
-    },
-    /// The text has holidays, and no table says which days these are. No text that is read without options is refused for this.
-    Holidays {
-        /// The number of bytes before its first holiday.
-        place: usize,
-    },
-    /// The text has holidays, and no years are given in which they are known. The same holds.
-    Years {
-        /// The number of bytes before its first holiday.
-        place: usize,
-    },
-    /// The table does not say all holidays of a kind in the years. The same holds.
-    Uncovered {
-        /// The number of bytes before the holiday.
-        place: usize,
-        /// The first day of the years that the table does not cover, from 1970-01-01 on.
-        day: i64,
-    },
-    /// The text says nowhere when it is open. The same holds.
-    Unknown {
-        /// The number of bytes before its rule.
-        place: usize,
-    },
-    /// The text has an open end, for which no clock time is given. The same holds.
-    OpenEnd {
-        /// The number of bytes before it.
-        place: usize,
-    },
-    /// The text has a point of time, and it is not given how long it lasts. The same holds.
-    Point {
-        /// The number of bytes before it.
-        place: usize,
-    },
-    /// The text has an event of the sun, for which no clock time is given. The same holds.
-    SunTime {
-        /// The number of bytes before it.
-        place: usize,
-    },
+    /// The text is not read. This is its first fault.
+    Fault(OptionsFault),
     /// The domain would have more than 128 basic domains.
-    TooMany,
+    TooMany {
+        /// How many it would have, where `u32::MAX` stands for it and for more.
+        needed: u32,
+    },
 }
 
 /// Why a word stands for nothing.

@@ -24,6 +24,11 @@ With ``records=True`` two more kinds are written, by the program ``gtdesk``:
 
     osm.extract("town.osm.pbf", "means.csv", "out", records=True)
 
+Opening hours with public holidays need a table of these, and the years in which it knows them::
+
+    hours = {"holidays": "holidays.csv", "years": "2026-2030"}
+    osm.extract("town.osm.pbf", "means.csv", "out", records=True, hours=hours)
+
 **Which tags** matter, a file of means says: a comma-separated file with the header ``kind,name,means``. With the name ``hgv`` of
 kind ``mode`` these keys matter: ``hgv``, ``hgv:forward``, ``hgv:backward``, and each of them with ``:conditional`` behind it. Of
 the mode ``oneway`` only ``oneway`` and ``oneway:conditional`` do. Each other key that ends in ``:conditional`` is kept too, so
@@ -43,11 +48,11 @@ from __future__ import annotations
 
 import os
 from pathlib import Path
-from typing import Union
+from typing import Mapping, Optional, Union
 
 from gtd._program import MOST_ROWS
 from gtd._staging import Staging
-from gtd.osm._conversion import convert
+from gtd.osm._conversion import convert, words_of
 from gtd.osm._means import read_names
 from gtd.osm._reading import read
 from gtd.osm._tables import LAST_ELEMENT, Tables
@@ -66,6 +71,7 @@ def extract(
     first: int = 1,
     rows_per_table: int = MOST_ROWS,
     records: bool = False,
+    hours: Optional[Mapping[str, _Path]] = None,
     show_progress: bool = False,
 ) -> Done:
     """Write the tags of an extract's ways that restrict them, and from which ways they come; and the records of these tags.
@@ -85,6 +91,10 @@ def extract(
         1 to 65,536; an element with more tags has a table of its own.
     records : bool
         Write record files, too.
+    hours : mapping of str to str or os.PathLike
+        What opening hours in values leave open, by the options of ``gtdesk conditions``: ``holidays`` (a file), ``years``,
+        ``open-end``, ``points``, ``sunrise``, ``sunset``, ``dawn``, ``dusk`` and ``day-names``, as in
+        ``{"holidays": "at.csv", "years": "2026-2030"}``. They matter with ``records``. Hours that need another one are at fault.
     show_progress : bool
         Draw a progress bar on standard error.
 
@@ -97,8 +107,8 @@ def extract(
     Fault
         Of the means ``'TooLarge'``, ``'Header'`` or ``'FieldCount'``. Of the extract ``'Extract'`` if it cannot be read as one,
         ``'Repeated'`` or ``'Order'`` if a way comes again or too late, ``'TooManyRows'`` or ``'TooLarge'`` if the tags of one
-        way do not fit into a table, and ``'Element'`` after the element 9,999,999,999. With ``records`` any fault of the means.
-        Nothing is kept.
+        way do not fit into a table, and ``'Element'`` after the element 9,999,999,999. With ``records`` any fault of the means,
+        or of the table of holidays. Nothing is kept.
     OSError
         A file cannot be opened or read; or the output exists already, is being written by another run, or cannot be written.
         Nothing is kept.
@@ -116,6 +126,7 @@ def extract(
         raise ValueError(f"the first element is 0 to {LAST_ELEMENT}, not {first}")
     if not 1 <= rows_per_table <= MOST_ROWS:
         raise ValueError(f"rows_per_table is 1 to {MOST_ROWS}, not {rows_per_table}")
+    options = words_of(hours or {})
     names = read_names(os.fspath(means))
     with Staging(Path(out).absolute(), False) as staging:
         with Tables(staging.parts, first, rows_per_table) as tables:
@@ -123,7 +134,7 @@ def extract(
             read(os.fspath(path), ways, show_progress)
         done = ways.done(tables)
         if records:
-            made = convert(staging.parts, done.parts, os.fspath(means))
+            made = convert(staging.parts, done.parts, os.fspath(means), options)
             done = done._replace(records=made.files, rows=made.rows, at_fault=made.left_out)
         staging.keep([], [], False)
     return done

@@ -1,4 +1,4 @@
-"""The command: ``python3 -m gtd.osm EXTRACT --means MEANS.csv --out DIR [--records] [--first N]``."""
+"""The command: ``python3 -m gtd.osm EXTRACT --means MEANS.csv --out DIR [--records [--holidays FILE] ..] [--first N]``."""
 
 from __future__ import annotations
 
@@ -8,6 +8,7 @@ from typing import List, Optional
 
 from gtd import osm
 from gtd._command import status_of
+from gtd.osm._conversion import OPTIONS
 from gtd.osm._tables import LAST_ELEMENT
 
 _SHOWN = 10  # keys that the means do not have
@@ -21,7 +22,11 @@ def main(words: Optional[List[str]] = None) -> int:
 
 def _done(given: argparse.Namespace) -> int:
     show = not given.quiet and sys.stderr.isatty()
-    done = osm.extract(given.extract, given.means, given.out, first=given.first, records=given.records, show_progress=show)
+    values = {name: getattr(given, name.replace("-", "_")) for name in OPTIONS}
+    hours = {name: value for name, value in values.items() if value is not None}
+    done = osm.extract(
+        given.extract, given.means, given.out, first=given.first, records=given.records, hours=hours, show_progress=show
+    )
     if not given.quiet:
         said = f"{done.ways:,} ways, {done.elements:,} elements, {done.tags:,} tags, {len(done.parts):,} tables of tags"
         left_out = ", ".join(f"{count:,} {reason}" for reason, count in done.left_out.items())
@@ -49,6 +54,13 @@ def _parser() -> argparse.ArgumentParser:
     parser.add_argument("--means", required=True, metavar="MEANS.csv", help="what names stand for: kind,name,means")
     parser.add_argument("--out", required=True, metavar="DIR", help="a new folder for tags-00000.csv... and elements.csv")
     parser.add_argument("--records", action="store_true", help="also record files, records-00000.csv..., and left_out.csv")
+    parser.add_argument("--holidays", metavar="FILE", help="the table of holidays, for PH and SH in hours of record files")
+    parser.add_argument("--years", metavar="F-L", help="the years in which holidays and Easter are known")
+    parser.add_argument("--open-end", metavar="HH:MM", help="the end of hours such as 17:00+")
+    parser.add_argument("--points", metavar="N", help="how many minutes a point of time lasts")
+    for event in ("sunrise", "sunset", "dawn", "dusk"):
+        parser.add_argument(f"--{event}", metavar="HH:MM", help=f"the clock time of {event}")
+    parser.add_argument("--day-names", choices=["de"], help="that Di, Do and So are German weekdays")
     parser.add_argument("--first", type=_element, default=1, metavar="N", help="the number of the first element; else 1")
     parser.add_argument("--quiet", action="store_true", help="no progress bar, and nothing said of success")
     return parser

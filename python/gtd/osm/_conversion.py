@@ -8,7 +8,7 @@ import re
 import subprocess
 from collections import Counter
 from pathlib import Path
-from typing import BinaryIO, Dict, List, NamedTuple, Optional, Sequence, Tuple
+from typing import BinaryIO, Dict, List, Mapping, NamedTuple, Optional, Sequence, Tuple, Union
 
 from gtd._fault import Fault
 from gtd._program import LARGEST_FILE, MOST_ROWS, program
@@ -17,8 +17,12 @@ from gtd.osm._tables import field
 _RECORDS = b"element,direction,vehicles,domain\n"
 _LEFT_OUT = b"element,key,value,fault\n"
 _HEADER = "element,key,value\n"
-_LISTED = re.compile(r"-:\d+: row (?P<row>\d+): (?P<fault>(?P<kind>\w+(?: [A-Z]\w+)?)(?: at \d+)?)")
-_MEANS = re.compile(r":(?P<line>\d+): (?:row (?P<row>\d+): )?(?P<kind>\w+)")
+_LISTED = re.compile(r"-:\d+: row (?P<row>\d+): (?P<fault>(?P<kind>\w+(?: [A-Z]\w+)?)(?: at \d+)?(?:: [-\d]+)?)")
+_OF_MEANS = re.compile(r".*:(?P<line>\d+): (?:row (?P<row>\d+): )?(?P<kind>\w+)")
+_OF_TABLE = re.compile(r"gtdesk: (?P<file>.*): (?:row (?P<row>\d+): )?(?P<kind>\w+)")
+_OF_WORD = re.compile(r"gtdesk: (?P<said>[-A-Z]+: .*)")
+
+OPTIONS = ("holidays", "years", "open-end", "points", "sunrise", "sunset", "dawn", "dusk", "day-names")
 
 
 class Converted(NamedTuple):
@@ -32,31 +36,44 @@ class Converted(NamedTuple):
     """How many elements were left out, by the kind of the first fault of their tags."""
 
 
-def convert(folder: Path, parts: Sequence[str], means: str) -> Converted:
+def words_of(hours: Mapping[str, Union[str, "os.PathLike[str]"]]) -> List[str]:
+    """The options of ``gtdesk conditions`` with which hours are read; those that are files, by whole paths."""
+    wrong = sorted(set(hours) - set(OPTIONS))
+    if wrong:
+        raise ValueError(f"the options of hours are {', '.join(OPTIONS)}, not {', '.join(map(repr, wrong))}")
+    words: List[str] = []
+    for name, value in hours.items():
+        words += [f"--{name}", os.path.abspath(value) if name == "holidays" else os.fspath(value)]
+    return words
+
+
+def convert(folder: Path, parts: Sequence[str], means: str, options: Sequence[str] = ()) -> Converted:
     """Write the record files ``records-00000.csv``... of tables of tags in a folder, and ``left_out.csv``.
 
-    An element of which a tag is at fault is left out whole: a part of what its tags say could be taken for all of it.
+    An element of which a tag is at fault is left out whole: a part of what its tags say could be taken for all of it. Hours in
+    values are read with the options, as :func:`words_of` makes them.
 
     Raises
     ------
     Fault
-        The first fault of the table of means; or the rows of one element do not fit into a record file.
+        The first fault of the table of holidays or of means; or the rows of one element do not fit into a record file.
     OSError, MemoryError, RuntimeError
         ``gtdesk`` is not found or fails, or a file cannot be written.
     """
     kinds: Counter[str] = Counter()
+    desk = _Desk(means, options)
     with _Records(folder) as records, open(folder / "left_out.csv", "xb") as left_out:
         left_out.write(_LEFT_OUT)
         for part in parts:
             with open(folder / part, newline="", encoding="utf-8") as file:
                 rows = list(csv.reader(file))[1:]
-            status, printed, said = _run(_table(rows), means)
-            found = _faults(status, said, means)
+            status, printed, said = desk.run(_table(rows))
+            found = desk.faults(status, said)
             if found:
                 at_fault = {rows[row - 1][0] for row, _, _ in found}
                 kinds.update(_first_kinds(rows, found).values())
                 left_out.write("".join(_line([*rows[row - 1], fault]) for row, fault, _ in found).encode())
-                printed = _printed([row for row in rows if row[0] not in at_fault], means)
+                printed = desk.printed([row for row in rows if row[0] not in at_fault])
             records.add(printed)
         done = records.files, records.rows
     return Converted(*done, dict(kinds.most_common()))
@@ -70,34 +87,46 @@ def _first_kinds(rows: Sequence[Sequence[str]], found: Sequence[Tuple[int, str, 
     return kinds
 
 
-def _run(tags: bytes, means: str) -> Tuple[int, bytes, str]:
-    """The status of ``gtdesk conditions``, what it printed, and what it said."""
-    path = program("gtdesk")
-    done = subprocess.run([path, "conditions", "--", "-", os.path.abspath(means)], input=tags, capture_output=True)
-    return done.returncode, done.stdout, done.stderr.decode("utf-8", "replace")
+class _Desk:
+    """The program ``gtdesk conditions``, with a table of means and options of hours."""
 
+    def __init__(self, means: str, options: Sequence[str]) -> None:
+        self._means, self._options = means, options
 
-def _faults(status: int, said: str, means: str) -> List[Tuple[int, str, str]]:
-    """The row, the fault and its kind for each row that is at fault."""
-    if status == 0:
-        return []
-    lines = said.splitlines()
-    found = [listed for listed in map(_LISTED.fullmatch, lines) if listed]
-    if status == 1 and found:
-        return [(int(one["row"]), one["fault"], one["kind"]) for one in found]
-    named = _MEANS.search(lines[0]) if status == 1 and lines else None
-    if named:
-        row = int(named["row"]) if named["row"] else None
-        raise Fault(named["kind"], file=means, line=int(named["line"]), row=row)
-    raise RuntimeError(f"gtdesk conditions ended with status {status}: {said.strip() or 'it said nothing'}")
+    def run(self, tags: bytes) -> Tuple[int, bytes, str]:
+        """Its status, what it printed, and what it said."""
+        words = [program("gtdesk"), "conditions", *self._options, "--", "-", os.path.abspath(self._means)]
+        done = subprocess.run(words, input=tags, capture_output=True)
+        return done.returncode, done.stdout, done.stderr.decode("utf-8", "replace")
 
-
-def _printed(rows: Sequence[Sequence[str]], means: str) -> bytes:
-    """The record file of tags none of which is at fault."""
-    status, printed, said = _run(_table(rows), means)
-    if status != 0:
+    def faults(self, status: int, said: str) -> List[Tuple[int, str, str]]:
+        """The row, the fault and its kind for each row that is at fault."""
+        if status == 0:
+            return []
+        lines = said.splitlines()
+        found = [listed for listed in map(_LISTED.fullmatch, lines) if listed]
+        if status == 1 and found:
+            return [(int(one["row"]), one["fault"], one["kind"]) for one in found]
+        self._refuse(status, lines[0] if lines else "")
         raise RuntimeError(f"gtdesk conditions ended with status {status}: {said.strip() or 'it said nothing'}")
-    return printed
+
+    def _refuse(self, status: int, line: str) -> None:
+        """Raise the fault of a line about the table of means or that of holidays, or about a word of an option."""
+        of_means, of_table, of_word = (form.fullmatch(line) for form in (_OF_MEANS, _OF_TABLE, _OF_WORD))
+        if status == 1 and of_means:
+            row = int(of_means["row"]) if of_means["row"] else None
+            raise Fault(of_means["kind"], file=self._means, line=int(of_means["line"]), row=row)
+        if status == 1 and of_table:
+            raise Fault(of_table["kind"], file=of_table["file"], row=int(of_table["row"]) if of_table["row"] else None)
+        if status == 2 and of_word:
+            raise ValueError(of_word["said"])
+
+    def printed(self, rows: Sequence[Sequence[str]]) -> bytes:
+        """The record file of tags none of which is at fault."""
+        status, printed, said = self.run(_table(rows))
+        if status != 0:
+            raise RuntimeError(f"gtdesk conditions ended with status {status}: {said.strip() or 'it said nothing'}")
+        return printed
 
 
 def _table(rows: Sequence[Sequence[str]]) -> bytes:

@@ -7,12 +7,15 @@ ghost use Rattle.gtdesk_plans.specs.Arguments.{Builds};
 ghost use Rattle.gtdesk_plans.specs.Commands.Conditions.{Asks, app, words};
 ghost use Rattle.gtdesk_words.specs.Readings.{AreStopped};
 
-use crate::arguments::{Argument, DAY_NAMES, with_arguments};
-use crate::given::{is_given, text, value};
+use crate::arguments::{
+    Argument, DAWN, DAY_NAMES, DUSK, HOLIDAYS, OPEN_END, POINTS, SUNRISE, SUNSET, YEARS,
+    with_arguments,
+};
+use crate::given::text;
+use crate::options::{HoursOptions, options_of};
 use crate::plans::Plan;
 use clap::{ArgMatches, Command};
-use gtd_hours_loose_tokens::DayNames;
-use gtdesk_words::{WordsRefusal, day_names_of};
+use gtdesk_words::WordsRefusal;
 use std::alloc::{AllocError, Global};
 
 /// A file of tags of ways, and a table of what their names mean.
@@ -22,28 +25,35 @@ pub struct ConditionsPlan {
     pub tags: String,
     /// The path of the table of means, or `-` for standard input.
     pub means: String,
-    /// Whether opening hours in a condition that are written loosely are at fault.
-    pub strict: bool,
-    /// What `Di`, `Do` and `So` are where opening hours are written loosely.
-    pub names: DayNames,
+    /// How opening hours in conditions are read.
+    pub options: HoursOptions,
 }
 
 // What help says at the end.
 const EXAMPLES: &str = "\
-Example:
-  gtdesk conditions tags.csv means.csv > records.csv";
+Examples:
+  gtdesk conditions tags.csv means.csv > records.csv
+  gtdesk conditions --holidays holidays.csv --years 2026-2030 tags.csv means.csv > records.csv";
 
 // What help says of it.
 const ABOUT: &str =
     "Print the record file of the tags of ways that say, with conditions or without, who may use them and when";
 
 // Its words and options.
-const ARGUMENTS: [Argument; 4] = [
+const ARGUMENTS: [Argument; 12] = [
     Argument::Flag {
         name: "strict",
         help: "Take opening hours that are written loosely as faults",
     },
     DAY_NAMES,
+    HOLIDAYS,
+    YEARS,
+    OPEN_END,
+    POINTS,
+    SUNRISE,
+    SUNSET,
+    DAWN,
+    DUSK,
     Argument::Word {
         name: "TAGS",
         help: "The file of tags, with the columns element, key and value",
@@ -68,11 +78,10 @@ pub(crate) fn command<'a>(alloc: Global) -> Result<Command<'a>, AllocError>
 pub(crate) fn plan(alloc: Global, given: &ArgMatches<'_>) -> Result<Plan, WordsRefusal>
     ensures { MatchResult result (Asks (rows_of (found_of given.now))) (AreStopped (words (rows_of (found_of given.now)))) }
 {
-    let names = match day_names_of(value(given, "day-names")) {
-        Ok(names) => names,
+    let options = match options_of(alloc, given) {
+        Ok(options) => options,
         Err(refusal) => return Err(refusal),
     };
-    let strict = is_given(given, "strict");
     let tags = match String::from_str(alloc, text(given, "TAGS")) {
         Ok(tags) => tags,
         Err(_) => return Err(WordsRefusal::Memory),
@@ -81,8 +90,7 @@ pub(crate) fn plan(alloc: Global, given: &ArgMatches<'_>) -> Result<Plan, WordsR
         Ok(means) => Ok(Plan::Conditions(ConditionsPlan {
             tags,
             means,
-            strict,
-            names,
+            options,
         })),
         Err(_) => Err(WordsRefusal::Memory),
     }

@@ -21,7 +21,7 @@ use Rattle.gtd_text.specs.facts.ReadingLaws.{one_fault}
 use Rattle.gtd_warnings.specs.Days.{AreDaysFrom}
 use Rattle.gtdesk_words.specs.ClockTexts.{event_in, open_end_in, points_in}
 use Rattle.gtdesk_words.specs.Text.{Text}
-use Rattle.gtdesk_words.specs.HoursWords.{HasDomain, IsNoDomainOf}
+use Rattle.gtdesk_words.specs.HoursWords.{HasDomain, IsNoDomainOf, plain_fault}
 use Rattle.gtdesk_words.specs.Readings.{AllStand, AreStopped, IsFaultOf, IsFirstFault, IsReason, Reading, Stands, Word}
 use Rattle.gtd_mistakes.specs.declared.rule.Rule.{Rule}
 use Rattle.gtdesk_words.specs.Words.{AreDays, AreRules, HasNoRule, IsNoDay, day_names_in, language_in, numbers_of, parts_of}
@@ -113,47 +113,17 @@ fits_or_not text one other a b few many =
 
 -- a text that has a domain has no reason to have none
 no_reason : (text : Text) → HasDomain text → (why : NoDomain) → IsNoDomainOf text why → ⊥
-no_reason text has (none.Fault bad) is = hours_or_fault text has.1.p bad has.1.is is
-no_reason text has (none.Ambiguous place) is = is
-no_reason text has (none.Holidays place) is = is
-no_reason text has (none.Years place) is = is
-no_reason text has (none.Uncovered place day) is = is
-no_reason text has (none.Unknown place) is = is
-no_reason text has (none.OpenEnd place) is = is
-no_reason text has (none.Point place) is = is
-no_reason text has (none.SunTime place) is = is
-no_reason text has none.TooMany is = fits_or_not text has.0 is.0 has.1 is.1 has.2 is.2
+no_reason text has (none.Fault bad) is = hours_or_fault text has.1.p is.0 has.1.is is.1
+no_reason text has (none.TooMany needed) is = fits_or_not text has.0 is.0 has.1 is.1 has.2 is.2.0
 
 -- a text has one reason
 one_reason : (text : Text) (a b : NoDomain) → IsNoDomainOf text a → IsNoDomainOf text b → a ≡ b
-one_reason text (none.Fault a) (none.Fault b) h k = ap none.Fault (one_first_fault text a b h k)
-one_reason text (none.Fault a) none.TooMany h k = absurd (hours_or_fault text k.1.p a k.1.is h)
-one_reason text none.TooMany (none.Fault b) h k = absurd (hours_or_fault text h.1.p b h.1.is k)
-one_reason text none.TooMany none.TooMany h k = refl
-one_reason text (none.Ambiguous place) b h k = absurd h
-one_reason text (none.Holidays place) b h k = absurd h
-one_reason text (none.Years place) b h k = absurd h
-one_reason text (none.Uncovered place day) b h k = absurd h
-one_reason text (none.Unknown place) b h k = absurd h
-one_reason text (none.OpenEnd place) b h k = absurd h
-one_reason text (none.Point place) b h k = absurd h
-one_reason text (none.SunTime place) b h k = absurd h
-one_reason text (none.Fault a) (none.Ambiguous place) h k = absurd k
-one_reason text (none.Fault a) (none.Holidays place) h k = absurd k
-one_reason text (none.Fault a) (none.Years place) h k = absurd k
-one_reason text (none.Fault a) (none.Uncovered place day) h k = absurd k
-one_reason text (none.Fault a) (none.Unknown place) h k = absurd k
-one_reason text (none.Fault a) (none.OpenEnd place) h k = absurd k
-one_reason text (none.Fault a) (none.Point place) h k = absurd k
-one_reason text (none.Fault a) (none.SunTime place) h k = absurd k
-one_reason text none.TooMany (none.Ambiguous place) h k = absurd k
-one_reason text none.TooMany (none.Holidays place) h k = absurd k
-one_reason text none.TooMany (none.Years place) h k = absurd k
-one_reason text none.TooMany (none.Uncovered place day) h k = absurd k
-one_reason text none.TooMany (none.Unknown place) h k = absurd k
-one_reason text none.TooMany (none.OpenEnd place) h k = absurd k
-one_reason text none.TooMany (none.Point place) h k = absurd k
-one_reason text none.TooMany (none.SunTime place) h k = absurd k
+one_reason text (none.Fault a) (none.Fault b) h k =
+    ap none.Fault (h.2 ∙ ap plain_fault (one_first_fault text h.0 k.0 h.1 k.1) ∙ sym k.2)
+one_reason text (none.Fault a) (none.TooMany b) h k = absurd (hours_or_fault text k.1.p h.0 k.1.is h.1)
+one_reason text (none.TooMany a) (none.Fault b) h k = absurd (hours_or_fault text h.1.p k.0 h.1.is k.1)
+one_reason text (none.TooMany a) (none.TooMany b) h k =
+    ap none.TooMany (h.2.1 ∙ ap counted (one_cost text h.0 k.0 h.1 k.1) ∙ sym k.2.1)
 
 -- ---- rules and days
 

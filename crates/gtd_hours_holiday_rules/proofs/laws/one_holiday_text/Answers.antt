@@ -13,6 +13,9 @@ returns-clause-rules c = proof.one_rules c.one_moving_front.ensures c.one_readin
 pub returns-clause-told : goal.returns-clause-told
 returns-clause-told c = proof.one_told c.one_moving_front.ensures c.one_reading.ensures.tokens
 
+pub returns-clause-whole_days : goal.returns-clause-whole_days
+returns-clause-whole_days c = proof.one_whole_days c.one_moving_front.ensures c.one_reading.ensures.tokens
+
 pub returns-clause-length : goal.returns-clause-length
 returns-clause-length c = λ text read p. proof.same_length text (parts_of p.has.items) read p.has.has
 

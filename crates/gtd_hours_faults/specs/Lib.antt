@@ -1,0 +1,3 @@
+pub mod Words
+pub mod Accepted
+pub mod Refused
