@@ -39,14 +39,14 @@ use Rattle.gtd_hours_ranges.specs.Days.{day_of, next_year}
 
 -- ---- values with the same numbers are the same
 
-pub same_month_day : (x y : MonthDay) → x.month ≡ y.month → x.day ≡ y.day → x ≡ y
+same_month_day : (x y : MonthDay) → x.month ≡ y.month → x.day ≡ y.day → x ≡ y
 same_month_day x y month day = λ i. record {
   month = month i;
   day = day i;
   in_range = is_prop→PathP (λ j. ranges.IsMonthDay (month j) (day j)) (λ j. hlevel props) x.in_range y.in_range i;
 }
 
-pub same_year_date : (x y : YearDate) → x.year ≡ y.year → x.month ≡ y.month → x.day ≡ y.day → x ≡ y
+same_year_date : (x y : YearDate) → x.year ≡ y.year → x.month ≡ y.month → x.day ≡ y.day → x ≡ y
 same_year_date x y year month day = λ i. record {
   year = year i;
   month = month i;
@@ -57,7 +57,7 @@ same_year_date x y year month day = λ i. record {
 abbrev pub InRange : YearDate → YearDate → Type 0
 InRange first last = IsDatedRange first.year first.month first.day last.year last.month last.day
 
-pub same_dated : (x y : Dated) → x.first ≡ y.first → x.last ≡ y.last → x ≡ y
+same_dated : (x y : Dated) → x.first ≡ y.first → x.last ≡ y.last → x ≡ y
 same_dated x y first last = λ i. record {
   first = first i;
   last = last i;
@@ -112,6 +112,17 @@ same_easter_range x y first last over = λ i. record {
   in_order = is_prop→PathP (λ j. IsEasterRange (over j) (first j) (last j)) (λ j. hlevel props) x.in_order y.in_order i;
 }
 
+-- a date is one by its day, and a range of dates by its first and its last
+pub same_date : (x y : YearDate) → day_of x ≡ day_of y → x ≡ y
+same_date x y same =
+    let one = date-unique (day_of x) (pos x.year) (pos y.year) x.month x.day y.month y.day (x.is_date.1, refl)
+    (y.is_date.1, same) in
+    let year : x.year ≡ y.year = cc in
+    same_year_date x y year one.1 one.2
+
+pub same_range : (x y : Dated) → day_of x.first ≡ day_of y.first → day_of x.last ≡ day_of y.last → x ≡ y
+same_range x y first last = same_dated x y (same_date x.first y.first first) (same_date x.last y.last last)
+
 -- ---- ends and dates
 
 pub one_end : (written : WrittenEnd) (x y : YearlyDay) → IsEndOf written x → IsEndOf written y → x ≡ y
@@ -143,12 +154,7 @@ one_day (yearly.Easter offset) y n m h k = same n m offset.days (h ∙ sym k)
     same n m d e = omega (arith, signed_arith, e)
 
 pub one_date : (e : YearlyDay) (year : ℕ) (x y : YearDate) → IsDateIn e year x → IsDateIn e year y → x ≡ y
-one_date e year x y h k =
-    let same : day_of x ≡ day_of y = one_day e year (day_of x) (day_of y) h.1 k.1 in
-    let one = date-unique (day_of x) (pos x.year) (pos y.year) x.month x.day y.month y.day (x.is_date.1, refl)
-    (y.is_date.1, same) in
-    let year : x.year ≡ y.year = cc in
-    same_year_date x y year one.1 one.2
+one_date e year x y h k = same_date x y (one_day e year (day_of x) (day_of y) h.1 k.1)
 
 one_later : (e : YearlyDay) (year : ℕ) (first x y : YearDate) → IsLaterDate e year first x → IsLaterDate e year first y → x ≡ y
 one_later e year first x y (inl h) (inl k) = one_date e year x y h.0 k.0
@@ -246,7 +252,11 @@ one_selector None None (yearly.Calendar first) (yearly.Easter last) (days.Easter
     ap days.Easter (one_easter_range x y (h.0 ∙ sym k.0) (h.1 ∙ sym k.1))
 one_selector (Some year) last_year first last (days.Always (selector.Dated x)) (days.Always (selector.Dated y)) h k =
     ap (λ (z : Dated). days.Always (selector.Dated z)) (one_dates year last_year first last x y h k)
-one_selector year last_year first last x y h k = absurd cc
+one_selector (Some year) last_year first last (days.Always (selector.Dated x)) y h k = absurd k
+one_selector None None (yearly.Calendar first) (yearly.Calendar last) (days.Always (selector.Moving x)) y h k = absurd k
+one_selector None None (yearly.Easter first) last (days.Easter x) y h k = absurd k
+one_selector None None (yearly.Calendar first) (yearly.Easter last) (days.Easter x) y h k = absurd k
+one_selector year last_year first last x y h k = absurd h
 
 pub one_days : (range : WrittenRange) (x y : RangeDays) → IsDaysOf range x → IsDaysOf range y → x ≡ y
 one_days range x y h k =
