@@ -1,29 +1,29 @@
 -- Days of each year: one in each year, and near it; and the ranges between them.
 use Rattle.std.proofs.Common.{◌≡◌, ◌∙◌, sym, refl, ap, subst, arith, ◌<◌, ◌≤◌, ◌⊎◌, inl, inr, ◌↔◌, ◌+◌, ◌-◌, ℕ, Bool, true, false}
-use Rattle.std.proofs.Common.{ℤ, pos, ◌+ℤ◌, ◌-ℤ◌, ◌≤ℤ◌, ◌<ℤ◌}
+use Rattle.std.proofs.Common.{IsTrue, ℤ, pos, neg_ℤ, ◌+ℤ◌, ◌-ℤ◌, ◌≤ℤ◌, ◌<ℤ◌}
 use Rattle.std.proofs.lemmas.Bool.{cases_eq, cases_lt}
 use Rattle.gtd_calendar.specs.facts.Signed.{signed_arith}
-use Rattle.gtd_calendar.specs.Calendar.{AreFieldsOf, IsDate, IsDateOf, day_number, days_of_months, first_day, month_length}
+use Rattle.gtd_calendar.specs.Calendar.{AreFieldsOf, IsCalendarDay, IsDateOf, day_number, days_of_months, first_day, month_length}
 use Rattle.gtd_calendar.specs.Calendar.{year_length}
 use Rattle.gtd_calendar.specs.declared.day.DayFields.{DayFields}
 use Rattle.gtd_calendar.specs.facts.CycleLemmas.{date-cycle, month_length-cycle, week-cycle, weekday_of-cycle}
 use Rattle.gtd_calendar.specs.facts.DateLemmas.{day_number-in_year, days_of_months-next, days_of_months-zero, month_length_bounds}
 use Rattle.gtd_calendar.specs.facts.YearLemmas.{first_day-next}
+use Rattle.gtd_hours.specs.ComputedPlaces.{end_day}
 use Rattle.gtd_hours.specs.Moving.{IsEndIn, day_from}
 use Rattle.gtd_hours.specs.declared.places.End.{End}
 use Rattle.gtd_hours.specs.declared.places.End.TheVariants as end
 use Rattle.gtd_hours.specs.declared.places.MonthPlace.{MonthPlace}
-use Rattle.gtd_hours.specs.facts.PlaceFacts.{end-only}
-use Rattle.gtd_hours_holidays.specs.Easter.{IsEaster}
+use Rattle.gtd_hours.specs.facts.PlaceFacts.{end-is, end-only}
+use Rattle.gtd_hours_holidays.specs.Easter.{easter_day, easter_month}
 use Rattle.gtd_hours_holidays.specs.KnownYears.{IsOfYears}
 use Rattle.gtd_hours_holidays.specs.declared.known_years.KnownYears.{KnownYears}
-use Rattle.gtd_hours_days.specs.EasterRanges.{IsDayIn, IsInRange, IsInRangeOf, IsInOrder, IsInNextOrder, IsOrder, IsNextOrder}
-use Rattle.gtd_hours_days.specs.EasterRanges.{last_year}
-use Rattle.gtd_hours_days.specs.declared.offset.Offset.{Offset}
+use Rattle.gtd_hours_days.specs.EasterRanges.{IsDayIn, IsEasterRange, IsInNextOrder, IsInOrder, IsInRange, IsInRangeOf, IsOrder}
+use Rattle.gtd_hours_days.specs.EasterRanges.{has_each_year, last_year}
 use Rattle.gtd_hours_days.specs.declared.yearly_day.YearlyDay.{YearlyDay}
 use Rattle.gtd_hours_days.specs.declared.yearly_day.YearlyDay.TheVariants.{Calendar, Easter}
 use Rattle.gtd_hours_days.proofs.AdditionFacts.{LiesBetween}
-use Rattle.gtd_hours_days.proofs.DateFacts.{in_order, long_year}
+use Rattle.gtd_hours_days.proofs.DateFacts.{first_day-1800, first_day-2800, in_order, long_year}
 
 -- ---- places, four hundred years later
 
@@ -55,6 +55,26 @@ place_later x y n h =
       later_from x.place.is_before x.place.days n h.0 h.6,
     )
 
+-- so the day of a place is found four hundred years later, or earlier
+pub place_earlier : (x : MonthPlace) (y : ℕ) (n m : ℤ) → m ≡ n -ℤ pos 146_097 → IsEndIn (end.Place x) (pos (y + 400)) n
+    → IsEndIn (end.Place x) (pos y) m
+place_earlier x y n m e h =
+    let here = end-is (end.Place x) (pos y) refl in
+    let there = place_later x (pos y) (end_day (end.Place x) (pos y)) here in
+    let at : pos y +ℤ pos 400 ≡ pos (y + 400) = omega (arith, signed_arith) in
+    let same = end-only (end.Place x) (pos (y + 400)) n h
+    ∙ sym (end-only (end.Place x) (pos (y + 400)) (end_day (end.Place x) (pos y) +ℤ pos 146_097) (rw at at there)) in
+    subst (λ (z : ℤ). IsEndIn (end.Place x) (pos y) z) (back (end_day (end.Place x) (pos y)) n m same e) here
+  where
+    back : (a n m : ℤ) → n ≡ a +ℤ pos 146_097 → m ≡ n -ℤ pos 146_097 → a ≡ m
+    back a n m e f = omega (arith, signed_arith, e, f)
+
+pub place_from : (x : MonthPlace) (y : ℕ) (n m : ℤ) → m ≡ n +ℤ pos 146_097 → 400 ≤ y
+    → IsEndIn (end.Place x) (pos (y - 400)) n → IsEndIn (end.Place x) (pos y) m
+place_from x y n m e low h =
+    let at : pos (y - 400) +ℤ pos 400 ≡ pos y = omega (arith, signed_arith, low) in
+    subst (λ (z : ℤ). IsEndIn (end.Place x) (pos y) z) (sym e) (rw at at (place_later x (pos (y - 400)) n h))
+
 -- ---- one day in each year
 
 pub one_day : (x : YearlyDay) (y : ℕ) (n m : ℤ) → IsDayIn x y n → IsDayIn x y m → n ≡ m
@@ -63,6 +83,65 @@ one_day (Easter offset) y n m h k = same n m offset.days (h ∙ sym k)
   where
     same : (n m d : ℤ) → n -ℤ d ≡ m -ℤ d → n ≡ m
     same n m d e = omega (arith, signed_arith, e)
+
+pub day_there : (x : YearlyDay) (y : ℕ) → has_each_year x ≡ true → (n : ℤ) × IsDayIn x y n
+day_there (Calendar e) y yearly = (end_day e (pos y), end-is e (pos y) yearly)
+day_there (Easter offset) y yearly =
+    let n = day_number (pos y) (easter_month y) (easter_day y) in
+    (n +ℤ offset.days, omega (arith, signed_arith))
+
+-- ---- the order of two days of each year
+
+pub order_of : (b : Bool) (over : Bool) (first last : YearlyDay) (y : ℕ) (m n : ℤ) → IsDayIn first y m → IsDayIn last y n
+    → IsTrue b ↔ IsOrder over m n → IsTrue b ↔ IsInOrder over first last y
+order_of b over first last y m n begins ends is = (
+  (λ yes p q h k. rw (one_day first y p m h begins, one_day last y q n k ends) (is.0 yes)),
+  (λ all. is.1 (all m n begins ends)),
+)
+
+pub next_of : (b : Bool) (first last : YearlyDay) (y : ℕ) (m n : ℤ) → has_each_year first ≡ true → has_each_year last ≡ true
+    → IsDayIn last y m → IsDayIn first (y + 1) n → IsTrue b ↔ (m <ℤ n) → IsTrue b ↔ IsInNextOrder false first last y
+next_of b first last y m n has there ends begins is = (
+  (λ yes p q r s a h k c. (
+    (λ e. rw (one_day last y q m h ends, one_day first (y + 1) r n k begins) (is.0 yes)),
+    (λ e. absurd cc),
+  )),
+  (λ all.
+      let a = day_there first y has in
+      let d = day_there last (y + 1) there in
+      is.1 ((all a.0 m n d.0 a.1 ends begins d.1).0 refl)),
+)
+
+pub over_of : (b : Bool) (first last : YearlyDay) (y : ℕ) (m n : ℤ) → has_each_year first ≡ true → has_each_year last ≡ true
+    → IsDayIn first y m → IsDayIn last (y + 1) n → IsTrue b ↔ (m ≤ℤ n) → IsTrue b ↔ IsInNextOrder true first last y
+over_of b first last y m n has there begins ends is = (
+  (λ yes p q r s h a c k. (
+    (λ e. absurd cc),
+    (λ e. rw (one_day first y p m h begins, one_day last (y + 1) s n k ends) (is.0 yes)),
+  )),
+  (λ all.
+      let c = day_there first (y + 1) has in
+      let d = day_there last y there in
+      is.1 ((all m d.0 c.0 n begins d.1 c.1 ends).1 refl)),
+)
+
+-- the order of one year says whether ranges go on to the next
+pub over_is : (b over : Bool) (first last : YearlyDay) → IsTrue b ↔ IsInOrder true first last 1800
+    → IsEasterRange over first last → over ≡ b
+over_is true true first last is range = refl
+over_is false false first last is range = refl
+over_is false true first last is range = absurd (no (is.1 (range.3.0 1800 (omega arith) (omega arith))))
+  where
+    no : IsTrue false → ⊥
+    no e = cc
+over_is true false first last is range =
+    let a = day_there first 1800 range.0 in
+    let b = day_there last 1800 range.1 in
+    absurd (late a.0 b.0 ((range.3.0 1800 (omega arith) (omega arith) a.0 b.0 a.1 b.1).0 refl)
+    ((is.0 refl a.0 b.0 a.1 b.1).1 refl))
+  where
+    late : (a b : ℤ) → a ≤ℤ b → b <ℤ a → ⊥
+    late a b p q = omega (arith, signed_arith, p, q)
 
 -- ---- near its year
 
@@ -114,17 +193,38 @@ from_near true days n m a b few e p q =
 from_near false days n m a b few e p q =
     (omega (arith, signed_arith, few, e, p), omega (arith, signed_arith, few, e, q))
 
-pub near_day : LiesBetween → (x : YearlyDay) (y : ℕ) (n : ℤ) → IsDayIn x y n → IsNearYear (pos y) n
-near_day between (Calendar (end.Date date)) y n h =
-    let lies = date_near n (pos y) date.month date.day h in
-    from_near false 0 n n (first_day (pos y)) (first_day (pos y +ℤ pos 1)) (omega arith) (omega (arith, signed_arith)) lies.0
-    lies.1
-near_day between (Calendar (end.Place x)) y n h =
+near_end : (e : End) (y n : ℤ) → IsEndIn e y n → IsNearYear y n
+near_end (end.Date date) y n h =
+    let lies = date_near n y date.month date.day h in
+    from_near false 0 n n (first_day y) (first_day (y +ℤ pos 1)) (omega arith) (omega (arith, signed_arith)) lies.0 lies.1
+near_end (end.Place x) y n h =
     let f : DayFields = h.1 in
     let m : ℤ = h.0 in
     let lies = rw h.3 at (date_near m f.year f.month f.day h.2.date) in
-    from_near x.place.is_before x.place.days n m (first_day (pos y)) (first_day (pos y +ℤ pos 1)) x.place.in_range.1 h.6 lies.0
-    lies.1
+    from_near x.place.is_before x.place.days n m (first_day y) (first_day (y +ℤ pos 1)) x.place.in_range.1 h.6 lies.0 lies.1
+
+-- a place is a day of the calendar, in all years but its first and its last
+pub place_near : (x : MonthPlace) (y : ℕ) (n : ℤ) → (1801 ≤ y) × (y ≤ 2798) → IsEndIn (end.Place x) (pos y) n
+    → IsCalendarDay n
+place_near x y n range h =
+    let near = near_end (end.Place x) (pos y) n h in
+    let low = range.0 in
+    let high = range.1 in
+    let first = in_order (pos 1801) (pos y) (omega (arith, signed_arith, low)) in
+    let last = in_order (pos y +ℤ pos 1) (pos 2799) (omega (arith, signed_arith, high)) in
+    let begin = first_day-next (pos 1800) in
+    let stop = first_day-next (pos 2799) in
+    within n (first_day (pos 1800)) (first_day (pos 1801)) (first_day (pos y)) (first_day (pos y +ℤ pos 1)) (first_day (pos 2799))
+    (first_day (pos 2800)) (year_length (pos 1800)) (year_length (pos 2799)) near.0 near.1 first last begin stop
+    (long_year (pos 1800)).0 (long_year (pos 2799)).0 first_day-1800 first_day-2800
+  where
+    within : (n a b p q c d : ℤ) (k l : ℕ) → p ≤ℤ (n +ℤ pos 300) → n <ℤ (q +ℤ pos 200) → b ≤ℤ p → q ≤ℤ c → b ≡ a +ℤ pos k
+        → d ≡ c +ℤ pos l → 365 ≤ k → 365 ≤ l → a ≡ neg_ℤ (pos 62_091) → d ≡ pos 303_151 → IsCalendarDay n
+    within n a b p q c d k l h i j m e f r s t u =
+        (omega (arith, signed_arith, h, j, e, r, t), omega (arith, signed_arith, i, m, f, s, u))
+
+pub near_day : LiesBetween → (x : YearlyDay) (y : ℕ) (n : ℤ) → IsDayIn x y n → IsNearYear (pos y) n
+near_day between (Calendar e) y n h = near_end e (pos y) n h
 near_day between (Easter offset) y n h =
     let b = between y (n -ℤ offset.days) h in
     let s = spring_days (pos y) in

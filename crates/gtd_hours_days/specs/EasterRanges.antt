@@ -28,14 +28,12 @@ last_year over y = if over then y + 1 else y
 
 -- The first day a of a year is not after its last day b; or it is, if ranges go on to the next year.
 abbrev pub IsOrder : Bool → ℤ → ℤ → Type 0
-IsOrder false a b = a ≤ℤ b
-IsOrder true a b = b <ℤ a
+IsOrder over a b = (over ≡ false → a ≤ℤ b) × (over ≡ true → b <ℤ a)
 
 -- The range from the first day a of a year to its last day b ends before the first day of the next year; or the one from there to
 -- the last day of the next year does not end before it begins.
 abbrev pub IsNextOrder : Bool → ℤ → ℤ → ℤ → ℤ → Type 0
-IsNextOrder false a b next_a next_b = b <ℤ next_a
-IsNextOrder true a b next_a next_b = a ≤ℤ next_b
+IsNextOrder over a b next_a next_b = (over ≡ false → b <ℤ next_a) × (over ≡ true → a ≤ℤ next_b)
 
 -- so it is in this year; and from this year to the next
 abbrev pub IsInOrder : Bool → YearlyDay → YearlyDay → ℕ → Type 0

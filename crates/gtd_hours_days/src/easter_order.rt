@@ -1,8 +1,8 @@
 //! Whether two days of each year are in the same order in each year.
 
-ghost use Rattle.std.specs.Prelude.{◌≡◌, ◌↔◌, ◌||◌, ◌≤◌, ◌<◌, ◌<ℤ◌, true, ℕ, ℤ, IsTrue};
+ghost use Rattle.std.specs.Prelude.{◌≡◌, ◌↔◌, ◌||◌, ◌≤◌, ◌<◌, ◌≤ℤ◌, ◌<ℤ◌, true, false, ℕ, IsTrue};
 ghost use Rattle.gtd_hours.specs.Moving.{is_yearly};
-ghost use Rattle.gtd_hours_days.specs.EasterRanges.{AreInOrder, IsDayIn, IsInNextOrder, IsInOrder, IsNextOrder, IsOrder};
+ghost use Rattle.gtd_hours_days.specs.EasterRanges.{IsInNextOrder, IsInOrder, IsOrder};
 ghost use Rattle.gtd_hours_days.specs.EasterRanges.{has_each_year, is_easter};
 
 use crate::easter_range::EasterRange;
@@ -57,6 +57,12 @@ fn is_before(a: i64, b: i64) -> bool
     a < b
 }
 
+fn is_not_after(a: i64, b: i64) -> bool
+    ensures { IsTrue result ↔ (a ≤ℤ b) }
+{
+    a <= b
+}
+
 // Whether the days of a year are in order.
 fn is_order(is_over: bool, a: i64, b: i64) -> bool
     ensures { IsTrue result ↔ IsOrder is_over a b }
@@ -64,18 +70,8 @@ fn is_order(is_over: bool, a: i64, b: i64) -> bool
     if is_over {
         is_before(b, a)
     } else {
-        !is_before(b, a)
+        is_not_after(a, b)
     }
-}
-
-// Whether the last day of the next year comes before the first one of this year.
-fn comes_before(first: YearlyDay, last: YearlyDay, year: u16) -> bool
-    requires year { (1800 ≤ year) × (year ≤ 2799) }
-    requires first_in { has_each_year first ≡ true }
-    requires last_in { has_each_year last ≡ true }
-    ensures { (a b : ℤ) → IsDayIn first year a → IsDayIn last year b → IsTrue result ↔ (b <ℤ a) }
-{
-    is_before(day_in(last, year), day_in(first, year))
 }
 
 // Whether the days of a year are in order.
@@ -88,6 +84,26 @@ fn is_in_order(is_over: bool, first: YearlyDay, last: YearlyDay, year: u16) -> b
     is_order(is_over, day_in(first, year), day_in(last, year))
 }
 
+// Whether a range that does not go on to the next year ends before the next one begins.
+fn ends_before_next(first: YearlyDay, last: YearlyDay, year: u16) -> bool
+    requires year { (1800 ≤ year) × (year < 2799) }
+    requires first_in { has_each_year first ≡ true }
+    requires last_in { has_each_year last ≡ true }
+    ensures { IsTrue result ↔ IsInNextOrder false first last year }
+{
+    is_before(day_in(last, year), day_in(first, year + 1))
+}
+
+// Whether a range that goes on to the next year does not end before it begins.
+fn goes_on_to_next(first: YearlyDay, last: YearlyDay, year: u16) -> bool
+    requires year { (1800 ≤ year) × (year < 2799) }
+    requires first_in { has_each_year first ≡ true }
+    requires last_in { has_each_year last ≡ true }
+    ensures { IsTrue result ↔ IsInNextOrder true first last year }
+{
+    is_not_after(day_in(first, year), day_in(last, year + 1))
+}
+
 // Whether they are, from a year to the next.
 fn is_in_next_order(is_over: bool, first: YearlyDay, last: YearlyDay, year: u16) -> bool
     requires year { (1800 ≤ year) × (year < 2799) }
@@ -96,9 +112,9 @@ fn is_in_next_order(is_over: bool, first: YearlyDay, last: YearlyDay, year: u16)
     ensures { IsTrue result ↔ IsInNextOrder is_over first last year }
 {
     if is_over {
-        !is_before(day_in(last, year + 1), day_in(first, year))
+        goes_on_to_next(first, last, year)
     } else {
-        is_before(day_in(last, year), day_in(first, year + 1))
+        ends_before_next(first, last, year)
     }
 }
 
@@ -144,7 +160,7 @@ impl EasterRange {
         if !are_ends(first, last) {
             return None;
         }
-        let is_over = comes_before(first, last, FIRST_YEAR);
+        let is_over = is_in_order(true, first, last, FIRST_YEAR);
         if !are_in_order(is_over, first, last) {
             return None;
         }

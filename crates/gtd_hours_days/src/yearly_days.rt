@@ -1,6 +1,6 @@
 //! The day of a year that a day of each year is.
 
-ghost use Rattle.std.specs.Prelude.{◌≡◌, ◌≤◌, ◌-ℤ◌, ◌≤ℤ◌, neg_ℤ, true, pos};
+ghost use Rattle.std.specs.Prelude.{◌≡◌, ◌≤◌, ◌+ℤ◌, ◌-ℤ◌, ◌≤ℤ◌, neg_ℤ, true, pos};
 ghost use Rattle.gtd_hours.specs.Moving.{IsEndIn, is_yearly};
 ghost use Rattle.gtd_hours.specs.declared.places.End.TheVariants as end;
 ghost use Rattle.gtd_hours_holidays.specs.Easter.{IsEaster};
@@ -40,15 +40,29 @@ fn place_within(place: MonthPlace, year: u16) -> i64
     }
 }
 
+fn four_hundred_years_before(day: i64) -> i64
+    requires { (neg_ℤ (pos 70000) ≤ℤ day) × (day ≤ℤ pos 310000) }
+    ensures { result ≡ day -ℤ pos 146_097 }
+{
+    day - DAYS_OF_400_YEARS
+}
+
+fn four_hundred_years_after(day: i64) -> i64
+    requires { (neg_ℤ (pos 70000) ≤ℤ day) × (day ≤ℤ pos 310000) }
+    ensures { result ≡ day +ℤ pos 146_097 }
+{
+    day + DAYS_OF_400_YEARS
+}
+
 // The day of a place. It may be before or after all days of the calendar, so it is found four hundred years later or earlier.
 fn place_in(place: MonthPlace, year: u16) -> i64
     requires { (1800 ≤ year) × (year ≤ 2799) }
     ensures { IsEndIn (end.Place place) (pos year) result }
 {
     if year < 2300 {
-        place_within(place, year + 400) - DAYS_OF_400_YEARS
+        four_hundred_years_before(place_within(place, year + 400))
     } else {
-        place_within(place, year - 400) + DAYS_OF_400_YEARS
+        four_hundred_years_after(place_within(place, year - 400))
     }
 }
 

@@ -14,12 +14,13 @@ use Rattle.gtd_hours.specs.declared.hours.Selector.TheVariants as selector
 use Rattle.gtd_hours_dated.specs.Dated.{IsDatedHours}
 use Rattle.gtd_hours_dated.specs.facts.SameDated.{dated_rules}
 use Rattle.gtd_hours_text.specs.facts.SameRules.{SameRules}
+use Rattle.gtd_hours_days.specs.declared.listed.EasterDays.{EasterDays}
 use Rattle.gtd_hours_days.specs.declared.listed.Listed.{Listed}
 use Rattle.gtd_hours_holidays.specs.declared.holidays.Holidays.{Holidays}
 use Rattle.gtd_hours_holidays.specs.declared.known_years.KnownYears.{KnownYears}
 use Rattle.gtd_hours_holidays.specs.declared.row.HolidayRow.{HolidayRow}
 use Rattle.gtd_hours_holiday_rules.specs.declared.rules.HolidayRule.{HolidayRule}
-use Rattle.gtd_hours_known.specs.Easter.{AreEasterDays, IsOwnHours, month_days, of_easter}
+use Rattle.gtd_hours_known.specs.Easter.{AreEasterDays, IsOwnHours, month_days, listed_of}
 use Rattle.gtd_hours_known.specs.HolidayDays.{AreApart, AreDaysIn, date_day}
 use Rattle.gtd_hours_known.specs.Rules.{AreGivenDays}
 use Rattle.gtd_hours_known.specs.declared.known.Known.{Known}
@@ -178,12 +179,12 @@ one_list known (h ∷ holidays) days others p q =
     (subst (λ (y : KnownYears). AreDaysIn p.0.rows.items y (h ∷ holidays) others) same_years
     (subst (λ (t : Holidays). AreDaysIn t.rows.items q.1 (h ∷ holidays) others) same_table q.3))
 
-pub one_easter : (known : Known) (easter : List Listed) (days others : List Selector) → AreEasterDays known easter days
+pub one_easter : (known : Known) (easter : List EasterDays) (days others : List Selector) → AreEasterDays known easter days
     → AreEasterDays known easter others → days ≡ others
 one_easter known [] days others p q = p ∙ sym q
 one_easter known (h ∷ easter) days others p q =
-    one_in [] p.0 (of_easter (h ∷ easter)) days others p.2
-    (subst (λ (y : KnownYears). AreDaysIn [] y (of_easter (h ∷ easter)) others) (same_some q.0 p.0 (sym q.1 ∙ p.1)) q.2)
+    one_in [] p.0 (listed_of (h ∷ easter)) days others p.2
+    (subst (λ (y : KnownYears). AreDaysIn [] y (listed_of (h ∷ easter)) others) (same_some q.0 p.0 (sym q.1 ∙ p.1)) q.2)
 
 -- The own text of a rule stands for the same rules of hours.
 pub one_own : (known : Known) (from : HolidayRule) (one other : Hours) → IsOwnHours known from one

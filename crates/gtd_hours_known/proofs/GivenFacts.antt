@@ -3,13 +3,14 @@ use Rattle.std.proofs.Common.{◌≡◌, refl, subst, ℕ, List, [], ◌∷◌, 
 use Rattle.std.proofs.Common.{Result, Ok, Err, Vec, Global, zero, suc}
 use Rattle.std.proofs.lemmas.Bool.{false≢true}
 use Rattle.std.specs.Prelude.{IfErr, IfOk, IsSome, ◌==◌, if◌then◌else◌}
+use Rattle.gtd_hours_days.specs.declared.listed.EasterDays.{EasterDays}
 use Rattle.gtd_hours_days.specs.declared.listed.Listed.{Listed}
 use Rattle.gtd_hours_holidays.specs.declared.holidays.Holidays.{Holidays}
 use Rattle.gtd_hours_holidays.specs.declared.known_years.KnownYears.{KnownYears}
 use Rattle.gtd_hours_holiday_rules.specs.declared.rules.HolidayRule.{HolidayRule}
 use Rattle.gtd_hours_known.specs.Given.{AreAllGiven, has_table, no_easter_years, no_years, none_given, not_given}
 use Rattle.gtd_hours_known.specs.Given.{or_later, rule_lacks}
-use Rattle.gtd_hours_known.specs.Easter.{AreEasterDays, of_easter}
+use Rattle.gtd_hours_known.specs.Easter.{AreEasterDays, listed_of}
 use Rattle.gtd_hours_known.specs.HolidayDays.{AreDaysIn, AreDaysOf}
 use Rattle.gtd_hours_known.specs.Needs.{first_need, need_of, unknown_fault}
 use Rattle.gtd_hours_known.specs.Rules.{AreGivenDays, IsDaysStop, IsGiven, IsRuleStop, first_place}
@@ -72,22 +73,22 @@ rule_given known rule e =
     none_of (no_easter_years known.years rule.easter.items rule.easter_places.items)
     (none_given known rule.holidays.items rule.places.items) e
 
-pub years_for_easter : (years : Option KnownYears) (easter : List Listed) (places : List ℕ) → (length easter ≡ 0 → ⊥)
+pub years_for_easter : (years : Option KnownYears) (easter : List EasterDays) (places : List ℕ) → (length easter ≡ 0 → ⊥)
     → no_easter_years years easter places ≡ None → years ≡ None → ⊥
 years_for_easter years [] places some none e = some refl
 years_for_easter years (h ∷ easter) places some none e =
     let bad : false ≡ true = subst (λ (o : Option KnownYears). IsSome o) e (of_years years (first_place places) none) in
     absurd (false≢true bad)
 
-pub easter_given : (known : Known) (years : KnownYears) (easter : List Listed) (days : List Selector)
-    → (length easter ≡ 0 → ⊥) → known.years ≡ Some years → AreDaysIn [] years (of_easter easter) days
+pub easter_given : (known : Known) (years : KnownYears) (easter : List EasterDays) (days : List Selector)
+    → (length easter ≡ 0 → ⊥) → known.years ≡ Some years → AreDaysIn [] years (listed_of easter) days
     → AreEasterDays known easter days
 easter_given known years [] days some given are = absurd (some refl)
 easter_given known years (h ∷ easter) days some given are = (years, given, are)
 
-pub found_easter : (known : Known) (years : KnownYears) (easter : List Listed) (read : Result (Vec Selector Global) RulesStop)
+pub found_easter : (known : Known) (years : KnownYears) (easter : List EasterDays) (read : Result (Vec Selector Global) RulesStop)
     → (length easter ≡ 0 → ⊥) → known.years ≡ Some years
-    → IfOk read (λ days. AreDaysIn [] years (of_easter easter) days.items)
+    → IfOk read (λ days. AreDaysIn [] years (listed_of easter) days.items)
     → IfOk read (λ days. AreEasterDays known easter days.items)
 found_easter known years easter (Ok days) some given are = easter_given known years easter days.items some given are
 found_easter known years easter (Err why) some given are = tt

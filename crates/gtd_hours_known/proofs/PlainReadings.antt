@@ -3,6 +3,7 @@ use Rattle.std.proofs.Common.{◌≡◌, ◌∙◌, refl, sym, ap, subst, ℕ, L
 use Rattle.gtd_hours.specs.declared.hours.Hours.{Hours}
 use Rattle.gtd_hours.specs.declared.hours.Rule.{Rule}
 use Rattle.gtd_hours.specs.declared.hours.Selector.{Selector}
+use Rattle.gtd_hours_days.specs.declared.listed.EasterDays.{EasterDays}
 use Rattle.gtd_hours_days.specs.declared.listed.Listed.{Listed}
 use Rattle.gtd_hours_text.specs.Standing.{StandsFor}
 use Rattle.gtd_hours_loose.specs.Manners.{IsReadingIn}
@@ -86,7 +87,7 @@ same_days : (known other : Known) (holidays : List Listed) (days : List Selector
 same_days known other [] days none are = are
 same_days known other (h ∷ holidays) days none are = absurd cc
 
-same_easter : (known other : Known) (easter : List Listed) (days : List Selector) → easter ≡ []
+same_easter : (known other : Known) (easter : List EasterDays) (days : List Selector) → easter ≡ []
     → AreEasterDays known easter days → AreEasterDays other easter days
 same_easter known other [] days none are = are
 same_easter known other (h ∷ easter) days none are = absurd cc
@@ -129,7 +130,7 @@ same_given : (known other : Known) (holidays : List Listed) (places : List ℕ) 
 same_given known other [] places none = refl
 same_given known other (h ∷ holidays) places none = absurd cc
 
-no_easter : (years other : Option KnownYears) (easter : List Listed) (places : List ℕ) → easter ≡ []
+no_easter : (years other : Option KnownYears) (easter : List EasterDays) (places : List ℕ) → easter ≡ []
     → no_easter_years years easter places ≡ no_easter_years other easter places
 no_easter years other [] places none = refl
 no_easter years other (h ∷ easter) places none = absurd cc

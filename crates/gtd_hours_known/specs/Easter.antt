@@ -4,6 +4,7 @@ use Rattle.std.specs.Prelude.{◌≡◌, List, [], ◌∷◌, ◌++◌, Option, 
 use Rattle.gtd_hours.specs.declared.hours.Hours.{Hours}
 use Rattle.gtd_hours.specs.declared.hours.Selector.{Selector}
 use Rattle.gtd_hours_dated.specs.Dated.{IsDatedHours}
+use Rattle.gtd_hours_days.specs.declared.listed.EasterDays.{EasterDays}
 use Rattle.gtd_hours_days.specs.declared.listed.Listed.{Listed}
 use Rattle.gtd_hours_days.specs.declared.listed.Listed.TheVariants.{Easter}
 use Rattle.gtd_hours_holidays.specs.declared.known_years.KnownYears.{KnownYears}
@@ -11,20 +12,19 @@ use Rattle.gtd_hours_holiday_rules.specs.declared.rules.HolidayRule.{HolidayRule
 use Rattle.gtd_hours_known.specs.HolidayDays.{AreDaysIn}
 use Rattle.gtd_hours_known.specs.declared.known.Known.{Known}
 
--- those that are so many days after Easter Sunday
-abbrev pub of_easter : List Listed → List Listed
-of_easter [] = []
-of_easter (Easter offset ∷ listed) = Easter offset ∷ of_easter listed
-of_easter (h ∷ listed) = of_easter listed
+-- days of Easter as selectors that are listed
+abbrev pub listed_of : List EasterDays → List Listed
+listed_of [] = []
+listed_of (x ∷ easter) = Easter x ∷ listed_of easter
 
 -- The days of Easter in the years, of which a table says nothing. Where there is none of them, no years need be given.
-abbrev pub AreEasterDays : Known → List Listed → List Selector → Type 0
+abbrev pub AreEasterDays : Known → List EasterDays → List Selector → Type 0
 AreEasterDays known [] days = days ≡ []
-AreEasterDays known (h ∷ easter) days =
-    (years : KnownYears) × (known.years ≡ Some years) × AreDaysIn [] years (of_easter (h ∷ easter)) days
+AreEasterDays known (x ∷ easter) days =
+    (years : KnownYears) × (known.years ≡ Some years) × AreDaysIn [] years (listed_of (x ∷ easter)) days
 
 -- ranges that move, and the days of Easter, if there is one of either
-abbrev pub more_days : List Selector → List Listed → List Selector → Option (List Selector)
+abbrev pub more_days : List Selector → List EasterDays → List Selector → Option (List Selector)
 more_days [] [] days = None
 more_days [] (h ∷ easter) days = Some days
 more_days (x ∷ dates) easter days = Some ((x ∷ dates) ++ days)

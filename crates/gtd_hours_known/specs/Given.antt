@@ -1,6 +1,7 @@
 -- What the holidays and the days of Easter of a text need and is not given: a table, and years.
 use Rattle.std.specs.Prelude.{◌≡◌, ℕ, ◌&&◌, ◌||◌, Bool, true, false, if◌then◌else◌, List, [], ◌∷◌, drop, Option, Some, None}
 use Rattle.gtd_hours_days.specs.Listed.{kind_of}
+use Rattle.gtd_hours_days.specs.declared.listed.EasterDays.{EasterDays}
 use Rattle.gtd_hours_days.specs.declared.listed.Listed.{Listed}
 use Rattle.gtd_hours_holidays.specs.declared.holidays.Holidays.{Holidays}
 use Rattle.gtd_hours_holidays.specs.declared.known_years.KnownYears.{KnownYears}
@@ -55,7 +56,7 @@ none_given known (h ∷ holidays) places =
     or_later (not_given known h (first_place places)) (none_given known holidays (drop 1 places))
 
 -- no years are given for the first of some days of Easter at these places
-abbrev pub no_easter_years : Option KnownYears → List Listed → List ℕ → Option KnownFault
+abbrev pub no_easter_years : Option KnownYears → List EasterDays → List ℕ → Option KnownFault
 no_easter_years years [] places = None
 no_easter_years years (h ∷ easter) places = no_years years (first_place places)
 

@@ -29,10 +29,10 @@ abbrev pub first_place : List ℕ → ℕ
 first_place [] = 0
 first_place (place ∷ places) = place
 
--- where the first of some holidays at these places stands, or else another one
-abbrev pub first_or : List Listed → List ℕ → Option ℕ → Option ℕ
+-- where the first of some holidays or days of Easter at these places stands, or else another one
+abbrev pub first_or : {A : Type 0} → List A → List ℕ → Option ℕ → Option ℕ
 first_or [] places later = later
-first_or (h ∷ holidays) places later = Some (first_place places)
+first_or (x ∷ xs) places later = Some (first_place places)
 
 -- where the first Easter or else the first holiday of the first rule that has one stands
 abbrev pub first_holiday : List HolidayRule → Option ℕ

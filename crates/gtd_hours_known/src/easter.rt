@@ -3,7 +3,7 @@
 ghost use Rattle.std.specs.Prelude.{◌≡◌, ◌++◌, [], IfErr, IfOk, None, Some};
 ghost use Rattle.gtd_hours_dated.specs.Dated.{IsDatedHours};
 ghost use Rattle.gtd_hours_loose.specs.Reading.{IsStrict};
-ghost use Rattle.gtd_hours_known.specs.Easter.{AreEasterDays, IsOwnHours, month_days, of_easter};
+ghost use Rattle.gtd_hours_known.specs.Easter.{AreEasterDays, IsOwnHours, listed_of, month_days};
 ghost use Rattle.gtd_hours_known.specs.Given.{rule_lacks};
 ghost use Rattle.gtd_hours_known.specs.HolidayDays.{AreDaysIn};
 ghost use Rattle.gtd_hours_known.specs.declared.rules.RulesStop.TheVariants as stop;
@@ -13,37 +13,39 @@ use crate::rules::RulesStop;
 use crate::selectors::listed_selectors;
 use gtd_hours::{Hours, Selector};
 use gtd_hours_dated::read_dated_hours;
-use gtd_hours_days::{Listed, ListedFault};
+use gtd_hours_days::{EasterDays, Listed, ListedFault};
 use gtd_hours_holiday_rules::HolidayRule;
 use gtd_hours_holidays::{Holidays, KnownYears};
 use gtd_hours_text::{HoursTextFault, read_hours};
 use std::alloc::{AllocError, Global};
 
-// Those that are so many days after Easter Sunday.
-fn of_easter(alloc: Global, listed: &[Listed]) -> Result<Vec<Listed>, AllocError>
-    ensures { IfOk result (λ easter. easter.items ≡ of_easter listed.now) }
+// Days of Easter as selectors that are listed.
+fn listed_of(alloc: Global, easter: &[EasterDays]) -> Result<Vec<Listed>, AllocError>
+    ensures { IfOk result (λ listed. listed.items ≡ listed_of easter.now) }
 {
-    let mut easter = Vec::new(alloc);
-    let mut rest = listed;
+    let mut listed = Vec::new(alloc);
+    let mut rest = easter;
     while let Some((one, more)) = rest.split_first() {
-        if let Listed::Easter { offset } = *one {
-            easter.push(Listed::Easter { offset })?;
-        }
+        listed.push(Listed::Easter(*one))?;
         rest = more;
     }
-    Ok(easter)
+    Ok(listed)
 }
 
 // Their days in the years, of which a table says nothing.
-fn days_in(alloc: Global, years: KnownYears, listed: &[Listed]) -> Result<Vec<Selector>, RulesStop>
-    ensures days { IfOk result (λ days. AreDaysIn [] years (of_easter listed.now) days.items) }
+fn days_in(
+    alloc: Global,
+    years: KnownYears,
+    easter: &[EasterDays],
+) -> Result<Vec<Selector>, RulesStop>
+    ensures days { IfOk result (λ days. AreDaysIn [] years (listed_of easter.now) days.items) }
     ensures stop { IfErr result (λ why. why ≡ stop.NoMemory) }
 {
-    let easter = of_easter(alloc, listed)?;
+    let listed = listed_of(alloc, easter)?;
     let table = Holidays {
         rows: Vec::new(alloc),
     };
-    match listed_selectors(alloc, &table, years, easter.as_slice()) {
+    match listed_selectors(alloc, &table, years, listed.as_slice()) {
         Ok(days) => Ok(days),
         Err(why) => match why {
             ListedFault::Uncovered(_) => unreachable!(),

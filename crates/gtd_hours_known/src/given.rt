@@ -8,7 +8,7 @@ ghost use Rattle.gtd_hours_known.specs.Rules.{first_place};
 
 use crate::fault::KnownFault;
 use crate::known::Known;
-use gtd_hours_days::Listed;
+use gtd_hours_days::{EasterDays, Listed};
 use gtd_hours_holiday_rules::HolidayRule;
 use gtd_hours_holidays::{HolidayKind, HolidayRow, Holidays, KnownYears};
 
@@ -69,7 +69,7 @@ fn covers_kind_of(rows: &[HolidayRow], holiday: Listed) -> bool
     match holiday {
         Listed::Public { offset: _ } => covers(rows, HolidayKind::Public),
         Listed::School => covers(rows, HolidayKind::School),
-        Listed::Easter { offset: _ } => true,
+        Listed::Easter(_) => true,
     }
 }
 
@@ -124,7 +124,7 @@ fn none_given(known: &Known, holidays: &[Listed], places: &[usize]) -> Option<Kn
 // A fault at the first of some days of Easter at these places, if no years are given.
 fn no_easter_years(
     years: Option<KnownYears>,
-    easter: &[Listed],
+    easter: &[EasterDays],
     places: &[usize],
 ) -> Option<KnownFault>
     ensures { result ≡ no_easter_years years easter.now places.now }

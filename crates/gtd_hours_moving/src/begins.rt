@@ -149,7 +149,7 @@ pub fn begins_moving(text: &[u8], tokens: &[Token]) -> bool
 }
 
 /// What is behind the end of a range.
-pub fn behind_end(text: &[u8], tokens: &[Token]) -> &[Token]
+pub fn behind_end<'a>(text: &[u8], tokens: &'a [Token]) -> &'a [Token]
     ensures { result.now ≡ behind_end text.now tokens.now }
 {
     if begins_easter(text, tokens) {

@@ -48,16 +48,15 @@ fn small_year(year: i64) -> u16
     year as u16
 }
 
-// The date of a day, if it is one of the calendar.
-fn date_of(day: i64) -> Option<YearDate>
-    ensures kept { IfSome result (λ date. day_of date ≡ day) }
-    ensures none { IfNone result (IsCalendarDay day → ⊥) }
+/// The date of a day. Takes no memory.
+pub fn date_of(day: i64) -> YearDate
+    requires near { IsCalendarDay day }
+    ensures date { day_of result ≡ day }
 {
-    if is_calendar_day(day) {
-        let date = fields(day);
-        YearDate::new(small_year(date.year), date.month, date.day)
-    } else {
-        None
+    let date = fields(day);
+    match YearDate::new(small_year(date.year), date.month, date.day) {
+        Some(found) => found,
+        None => unreachable!(),
     }
 }
 
@@ -74,8 +73,12 @@ fn easter_in(offset: Offset, year: u16) -> Option<YearDate>
     ensures kept { IfSome result (IsDateIn (yearly.Easter offset) year) }
     ensures none { IfNone result ((x : YearDate) → IsDateIn (yearly.Easter offset) year x → ⊥) }
 {
-    if is_calendar_year(year) {
-        date_of(easter_day(offset, year))
+    if !is_calendar_year(year) {
+        return None;
+    }
+    let day = easter_day(offset, year);
+    if is_calendar_day(day) {
+        Some(date_of(day))
     } else {
         None
     }

@@ -10,5 +10,6 @@ mod days;
 mod ends;
 mod written;
 
+pub use dates::date_of;
 pub use days::{RangeDays, days_of, easter_place};
 pub use written::{WrittenEnd, WrittenPlace, WrittenRange};

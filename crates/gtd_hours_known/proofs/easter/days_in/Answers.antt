@@ -7,6 +7,6 @@ use Rattle.gtd_hours_known.proofs.easter.days_in.Goals as goal
 pub unreachable-requires : goal.unreachable-requires
 unreachable-requires c =
     let same : c.in-Err.why ≡ fault.Uncovered c.in-Uncovered.field-0 = search rules in
-    never_fault (record { rows = c.new.result }) c.args.years c.args.listed.now c.as_slice.result.now c.in-Err.why
+    never_fault (record { rows = c.new.result }) c.args.years c.args.easter.now c.as_slice.result.now c.in-Err.why
     c.in-Uncovered.field-0 same
-    (c.as_slice.ensures.value ∙ c.in_ok-easter.ensures) c.in-Err.ensures.fault
+    (c.as_slice.ensures.value ∙ c.in_ok-listed.ensures) c.in-Err.ensures.fault

@@ -1,4 +1,4 @@
-use Rattle.gtd_hours_moving.proofs.dates.date_in.Goals as goal
+use Rattle.gtd_hours_ranges.proofs.dates.date_in.Goals as goal
 
-pub returns-in-Place-clause-none : goal.returns-in-Place-clause-none
-returns-in-Place-clause-none c = rw c.in-Place.is c.place_in.ensures.none
+pub returns-in-Easter-clause-none : goal.returns-in-Easter-clause-none
+returns-in-Easter-clause-none c = rw c.in-Easter.is c.easter_in.ensures.none

@@ -1,5 +1,5 @@
-use Rattle.gtd_hours_moving.proofs.DayLemmas.{dates_range, no_dates, unless_some}
-use Rattle.gtd_hours_moving.proofs.days.dates_of.Goals as goal
+use Rattle.gtd_hours_ranges.proofs.DayLemmas.{dates_range, no_dates, unless_some}
+use Rattle.gtd_hours_ranges.proofs.days.dates_of.Goals as goal
 
 pub returns-in-Some-last_date-clause-none : goal.returns-in-Some-last_date-clause-none
 returns-in-Some-last_date-clause-none c =

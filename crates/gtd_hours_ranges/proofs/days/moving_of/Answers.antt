@@ -1,5 +1,5 @@
-use Rattle.gtd_hours_moving.proofs.DayLemmas.{no_moving}
-use Rattle.gtd_hours_moving.proofs.days.moving_of.Goals as goal
+use Rattle.gtd_hours_ranges.proofs.DayLemmas.{no_moving}
+use Rattle.gtd_hours_ranges.proofs.days.moving_of.Goals as goal
 
 pub returns-in-None-clause-none : goal.returns-in-None-clause-none
 returns-in-None-clause-none c =
