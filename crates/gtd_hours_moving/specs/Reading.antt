@@ -13,7 +13,6 @@ use Rattle.gtd_hours_moving.specs.declared.read.ReadRange.{ReadRange}
 use Rattle.gtd_hours_ranges.specs.declared.written.WrittenEnd.{WrittenEnd}
 use Rattle.gtd_hours_ranges.specs.declared.written.WrittenEnd.TheVariants.{Day, Easter, Place}
 use Rattle.gtd_hours_ranges.specs.declared.written.WrittenPlace.{WrittenPlace}
-use Rattle.gtd_hours_ranges.specs.declared.written.WrittenRange.{WrittenRange}
 use Rattle.gtd_hours_moving.specs.Begins.{at_number, begins_offset, behind_brackets, behind_end}
 use Rattle.gtd_hours_moving.specs.Kinds.{begins, is_bracket, is_closing, is_dash, is_day, is_plus, is_sign, is_weekday, later}
 use Rattle.gtd_hours_moving.specs.Words.{begins_easter}

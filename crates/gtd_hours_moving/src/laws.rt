@@ -11,7 +11,7 @@ ghost use Rattle.gtd_hours_tokens.specs.declared.token.Token.{Token};
 /// Tokens of a text begin with one range of days that moves, or with one that has one fault, or with none. The order of a range
 /// says whether it goes over the end of the year, and an end has one day in a year, so its days are one selector.
 pub fn one_moving_front()
-    ensures one { (text : List ℕ) (tokens : List Token) (one other : Option MovingFront) →
+    ensures { (text : List ℕ) (tokens : List Token) (one other : Option MovingFront) →
         IsMovingFront text tokens one → IsMovingFront text tokens other → one ≡ other }
 {}
 
