@@ -10,7 +10,7 @@ use Rattle.gtd_core.specs.Whole.{from_day, to_day}
 use Rattle.gtd_core.specs.declared.horizon.Horizon.{Horizon}
 use Rattle.gtd_core.specs.declared.horizon.HorizonFault.{HorizonFault}
 use Rattle.gtd_core.specs.declared.horizon.HorizonFault.TheVariants.{Empty, TooEarly, TooLate, TooLong}
-use Rattle.gtd_hours.specs.Cost.{hours_cost}
+use Rattle.gtd_hours.specs.Cost.{counted, hours_cost}
 use Rattle.gtd_hours.specs.declared.hours.Hours.{Hours}
 use Rattle.gtd_hours_grammar.specs.facts.FirstFault.{hours_or_fault, one_first_fault}
 use Rattle.gtd_hours_text.specs.Standing.{StandsFor}
@@ -114,7 +114,7 @@ fits_or_not text one other a b few many =
 -- a text that has a domain has no reason to have none
 no_reason : (text : Text) → HasDomain text → (why : NoDomain) → IsNoDomainOf text why → ⊥
 no_reason text has (none.Fault bad) is = hours_or_fault text has.1.p is.0 has.1.is is.1
-no_reason text has (none.TooMany needed) is = fits_or_not text has.0 is.0 has.1 is.1 has.2 is.2.0
+no_reason text has (none.TooMany needed) is = fits_or_not text has.0 is.0 has.1 is.1 has.2 is.2
 
 -- a text has one reason
 one_reason : (text : Text) (a b : NoDomain) → IsNoDomainOf text a → IsNoDomainOf text b → a ≡ b
@@ -123,7 +123,7 @@ one_reason text (none.Fault a) (none.Fault b) h k =
 one_reason text (none.Fault a) (none.TooMany b) h k = absurd (hours_or_fault text k.1.p h.0 k.1.is h.1)
 one_reason text (none.TooMany a) (none.Fault b) h k = absurd (hours_or_fault text h.1.p k.0 h.1.is k.1)
 one_reason text (none.TooMany a) (none.TooMany b) h k =
-    ap none.TooMany (h.2.1 ∙ ap counted (one_cost text h.0 k.0 h.1 k.1) ∙ sym k.2.1)
+    ap none.TooMany (h.3 ∙ ap counted (one_cost text h.0 k.0 h.1 k.1) ∙ sym k.3)
 
 -- ---- rules and days
 
