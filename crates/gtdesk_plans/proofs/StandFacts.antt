@@ -162,8 +162,7 @@ all_stand form.Ask rows p h = tt
 all_stand form.Records rows p h =
     let x = some_and (records.plan_in p) (records.IsPlan rows) h in options_stand rows x.0.options x.1.options
 all_stand form.Conditions rows p h =
-    let x = some_and (conditions.plan_in p) (conditions.IsPlan rows) h in
-    day_names_stand (first_of (codes "day-names") rows) x.0.names x.1.names
+    let x = some_and (conditions.plan_in p) (conditions.IsPlan rows) h in options_stand rows x.0.options x.1.options
 all_stand form.Mend rows p h = tt
 all_stand form.MendHours rows p h =
     let x = some_and (mend.hours_plan_in p) (mend.IsHoursPlan rows) h in
