@@ -57,8 +57,8 @@ impl Display for ConditionsFaultText {
     }
 }
 
-/// A fault in words: its row, if it has one; its kind; for a fault of a value, the place there; and a day that a table of holidays
-/// does not cover.
+/// A fault in words: its row, if it has one; its kind; for a fault of a value, the place there; and a day that a table of
+/// holidays does not cover.
 #[derive(Clone, Copy)]
 pub struct FaultText(pub FileFault);
 
