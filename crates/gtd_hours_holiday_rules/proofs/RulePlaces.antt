@@ -12,10 +12,10 @@ use Rattle.gtd_hours_holiday_rules.specs.declared.role.Role.{Role}
 use Rattle.gtd_hours_holiday_rules.specs.declared.role.Role.TheVariants as role
 use Rattle.gtd_hours_holiday_rules.specs.declared.text.HolidayText.{HolidayText}
 
-both_more : (places : List ℕ) (holidays : List Listed) (place : ℕ) (h : Listed) → length places ≡ length holidays
-    → length (places ++ place ∷ []) ≡ length (holidays ++ h ∷ [])
-both_more places holidays place h e =
-    omega (arith, e, length-append places (place ∷ []), length-append holidays (h ∷ []))
+both_more : {A : Type 0} (places : List ℕ) (days : List A) (place : ℕ) (x : A) → length places ≡ length days
+    → length (places ++ place ∷ []) ≡ length (days ++ x ∷ [])
+both_more places days place x e =
+    omega (arith, e, length-append places (place ∷ []), length-append days (x ∷ []))
 
 -- both places for each holiday, and for each day of Easter
 abbrev HasPlaces : Said → Type 0
@@ -28,7 +28,7 @@ item_placed text rule (role.Listed h) item e = (both_more rule.places rule.holid
 item_placed text rule role.Gone item e = e
 item_placed text rule role.Unwritten item e = e
 item_placed text rule (role.Dated days) item e = e
-item_placed text rule (role.Known days) item e = (e.0, both_more rule.easter_places rule.easter item.from days e.1)
+item_placed text rule (role.Known days place) item e = (e.0, both_more rule.easter_places rule.easter place days e.1)
 item_placed text rule role.Undated item e = e
 item_placed text rule role.Doubtful item e = e
 item_placed text rule role.Misfit item e = e

@@ -23,5 +23,7 @@ loop-token-preserved c more h =
     c.loop-token.invariant c.in-Some.ensures.cases.0 (omega (arith, c.if-skipped-gt0.false)) c.front_at-front.ensures more left)
 
 pub returns : goal.returns
-returns c = all_items c.args.text.now c.args.tokens.now c.loop-token.items.items c.loop-token.before c.loop-token.rest.now
-    c.loop-token.skipped c.loop-token.invariant (nil_from_length c.loop-token.rest.now c.in_default.ensures.cases)
+returns c = record {
+  items = all_items c.args.text.now c.args.tokens.now c.loop-token.items.items c.loop-token.before c.loop-token.rest.now
+      c.loop-token.skipped c.loop-token.invariant (nil_from_length c.loop-token.rest.now c.in_default.ensures.cases);
+}
