@@ -24,7 +24,7 @@ use Rattle.gtd_hours_known.specs.Easter.{AreEasterDays, IsOwnHours, month_days, 
 use Rattle.gtd_hours_known.specs.HolidayDays.{AreApart, AreDaysIn, date_day}
 use Rattle.gtd_hours_known.specs.Rules.{AreGivenDays}
 use Rattle.gtd_hours_known.specs.declared.known.Known.{Known}
-use Rattle.gtd_hours_known.proofs.RangeFacts.{same_range}
+use Rattle.gtd_hours_ranges.specs.facts.SameDays.{same_range}
 
 -- ---- ranges
 

@@ -9,6 +9,5 @@ pub mod PlainReadings
 pub mod GivenFacts
 pub mod SaidDays
 pub mod SaidRules
-pub mod RangeFacts
 pub mod ApartFacts
 pub mod EasterFacts

@@ -77,10 +77,10 @@ only_plain (manner.Loose names) known text read is stands = only_loose names kno
 
 -- ---- without holidays and Easter nothing needs to be known
 
-no_first : (holidays : List Listed) (places : List ℕ) (later : Option ℕ) → first_or holidays places later ≡ None
-    → (holidays ≡ []) × (later ≡ None)
+no_first : {A : Type 0} (xs : List A) (places : List ℕ) (later : Option ℕ) → first_or xs places later ≡ None
+    → (xs ≡ []) × (later ≡ None)
 no_first [] places later e = (refl, e)
-no_first (h ∷ holidays) places later e = absurd cc
+no_first (x ∷ xs) places later e = absurd cc
 
 same_days : (known other : Known) (holidays : List Listed) (days : List Selector) → holidays ≡ []
     → AreGivenDays known holidays days → AreGivenDays other holidays days

@@ -8,8 +8,8 @@ pub unreachable-requires : goal.unreachable-requires
 unreachable-requires c =
     let from = c.date_of.result in
     let to = c.date_of-2.result in
-    let first : date_day from ≡ c.args.first = c.date_of.ensures ∙ to_z-of_z c.ranges.first in
-    let last : date_day to ≡ c.args.last = c.date_of-2.ensures ∙ to_z-of_z c.ranges.last in
+    let first : date_day from ≡ c.args.first = c.date_of.ensures.date ∙ to_z-of_z c.ranges.first in
+    let last : date_day to ≡ c.args.last = c.date_of-2.ensures.date ∙ to_z-of_z c.ranges.last in
     let yes = c.in-None.ensures.accepted.1
     (dated_range _ _ c.args.first c.args.last first last c.requires.order c.requires.short) in
     cc
