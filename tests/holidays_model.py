@@ -5,6 +5,7 @@ by itself, it compares what it says with the worked rows in holidays/.
 Days are numbered from 1970-01-01. A set of days is a set of their numbers."""
 import csv
 import datetime
+import functools
 import io
 import os
 import re
@@ -90,6 +91,7 @@ def holidays(rows, kind, offset, first_year, last_year):
     return {day + offset for day in days_of(rows, kind, False) if day in known}
 
 
+@functools.cache
 def easter(year):
     """Easter Sunday: the Sunday after the paschal full moon, by the tables of the church rather than by a formula."""
     golden = year % 19 + 1

@@ -31,11 +31,12 @@ DAYS = ["PH", "SH", "PH +1 day", "PH -3 days", "Mo", "Tu-Fr", "Sa[1,-1]", "Su[2]
 FRONTS = ["", "", "", "Dec", "Dec 24,25", "Jan-Mar,2025 May 1", "2025", "2025,2027", "week 10", "week 10,20-22:"]
 FRONTS += ["Mar Su[-1]-Oct Su[1]", "Oct 15-Dec Su[1],Jan 6", "Dec 24,Mar Su[-1] +1 day-Oct 3,2025 May 1:"]
 FRONTS += ["2025 Sep Fr[2] -3 days-Apr Mo[1]", "2025-2026 Oct Sa[2]-Jan 3", "easter", "easter -2 days,easter +1 day"]
-FRONTS += ["Dec 24,easter +49 days,Jan 6", "2025,2026,easter:"]
+FRONTS += ["Dec 24,easter +49 days,Jan 6", "2025,2026,easter:", "easter-Oct 31", "Jan 6-easter -47 days,2026 easter", "2025,2026 easter"]
+FRONTS += ["Nov 1-easter", "Mar Su[-1]-easter +50 days", "2026 easter -2 days-2026 easter +1 day", "2025 easter-Oct 3,Dec 24:"]
 TIMES = ["", "10:00-12:00", "22:00-04:00", "08:00-09:00,22:00-02:00"]
 WORDS = DAYS + ["SH +1 day", "PH +0 days", "PH +Mo", "PH +1", ",", ";", ":", "-", "+", "24/7", "[", "]", "1", "off", "open", "easter"]
 WORDS += ["Dec", "2025", "10:00-12:00", ",PH", ",SH", "PH,SH", "Mo,"]
-WORDS += ["Su[1]", "Su[-1]-", "-Oct", "Mar Su[-1]-Oct Su[1]", "24-Jun Fr[2]", "easter +Mo", "easter +1", "-easter"]
+WORDS += ["Su[1]", "Su[-1]-", "-Oct", "Mar Su[-1]-Oct Su[1]", "24-Jun Fr[2]", "easter +Mo", "easter +1", "-easter", "2026 easter", "easter-", "easter -Mo"]
 
 
 def run(text, table, years):
