@@ -52,13 +52,14 @@ whole_days_left text form all more place w before after found e is put adds =
     (w, is, subst (λ (l : List Warning). AddsWholeDaysAt text form more l found) put adds)
 
 -- the rules of the strict form are looked through
-pub whole_days_read : {E : Type 0} (text : List ℕ) (form : Option StrictForm) (found : HolidayText) (strict : List ℕ)
+pub whole_days_read : {E : Type 0} (text : List ℕ) (form : Option StrictForm) (found : HolidayText) (strict places : List ℕ)
     (result : Result (Unit {0}) E) (before after : List Warning) → strict ≡ strict_text text form
-    → IsHolidayText strict found → OnOk result (AddsWholeDaysAt text form found.whole_days.items before after)
-    → OnOk result (AddsWholeDays text form before after)
-whole_days_read text form found strict (Ok done) before after e is adds =
-    AddsWholeDays.read found (subst (λ (t : List ℕ). IsHolidayText t found) e is) adds
-whole_days_read text form found strict (Err why) before after e is adds = tt
+    → IsHolidayText strict found → places ≡ found.whole_days.items
+    → OnOk result (AddsWholeDaysAt text form places before after) → OnOk result (AddsWholeDays text form before after)
+whole_days_read text form found strict places (Ok done) before after e is same adds =
+    AddsWholeDays.read found (subst (λ (t : List ℕ). IsHolidayText t found) e is)
+    (subst (λ (l : List ℕ). AddsWholeDaysAt text form l before after) same adds)
+whole_days_read text form found strict places (Err why) before after e is same adds = tt
 
 pub whole_days_unread : (text : List ℕ) (form : Option StrictForm) (place : ℕ) (strict : List ℕ) (before : List Warning)
     → strict ≡ strict_text text form → IsBadPlace strict place → AddsWholeDays text form before before
