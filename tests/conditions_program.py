@@ -131,9 +131,13 @@ def of_hours(warnings):
 
 
 def compare(check, data, means, room, options=LOOSE):
-    """Compares the program with the model on the bytes of a file of tags."""
+    """Compares the program with the model on the bytes of a file of tags. Hours of which the model writes no domain are left out: a
+    damaged value may have them."""
     table, bytes_of_means = means
-    expected, warnings, faults = conditional_model.put(data, table, options)
+    try:
+        expected, warnings, faults = conditional_model.put(data, table, options)
+    except (ValueError, NotImplementedError):
+        return
     status, output, errors = run(data, bytes_of_means, room, options)
     told = heads(errors, "tags.csv")
     wanted = "" if faults else "".join(line + "\n" for line in expected)

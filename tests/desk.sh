@@ -353,7 +353,7 @@ expect 'an empty text of hours' 1 '' $'gtdesk: TEXT: Incomplete at 0\n    \n    
 run hours 'Mo-Fr 12am-5am'
 expect 'hours that are read in two ways' 1 '' $'gtdesk: TEXT: Ambiguous at 6\n    Mo-Fr 12am-5am\n          ^\n    expected: what is read in one way: weekdays in English, and times such as 08:00'
 run same --hours 24/7 'Mo-Fr PH off'
-expect 'the second of two texts' 1 '' $'gtdesk: SECOND: Unsupported at 6\n    Mo-Fr PH off\n          ^\n    expected: weeks, years, dates, weekdays and times, without holidays, times of the sun and comments'
+expect 'the second of two texts' 1 '' $'gtdesk: SECOND: Unsupported at 6\n    Mo-Fr PH off\n          ^\n    expected: years, weeks, dates, weekdays and times; and where the command reads them, holidays and comments'
 run words "$(printf '%70s' '')(M13){M1}$(printf '%70s' '')"
 expect 'a long word' 1 '' "gtdesk: DOMAIN: FieldRange at 71
     ...$(printf '%39s' '')(M13){M1}$(printf '%42s' '')...
@@ -437,7 +437,7 @@ expect 'a day that the table does not cover' 1 '' $'tags.csv:2: row 1: Hours Unc
 run conditions --holidays means.csv --years 2026 tags.csv means.csv
 expect 'no table' 1 '' 'gtdesk: means.csv: Header'
 run conditions --holidays - --years 2026 - means.csv < days.csv
-expect 'standard input twice' 2 '' 'gtdesk: command line: standard input is given more than once (see gtdesk conditions --help)'
+expect 'standard input twice' 2 '' 'gtdesk: command line: standard input is given more than once (see gtdesk --help)'
 
 # Outputs that fail.
 : > out
