@@ -203,7 +203,7 @@ program_refused 1 records faulty_hours.csv
 program_refused 0 conditions tags.csv means.csv
 program_refused 1 conditions faulty_tags.csv means.csv
 program_refused 1 conditions tags.csv faulty_means.csv
-program_refused 2 conditions --years 1 tags.csv means.csv
+program_refused 1 conditions --years 1 tags.csv means.csv
 program_refused 1 conditions --holidays tags.csv --years 2026 tags.csv means.csv
 program_refused 0 picture r.csv 17 positive 12 2024
 program_refused 1 picture r.csv 18 positive 12 2024
