@@ -418,6 +418,8 @@ expect 'a full output for the faults of hours' 1 '' ''
 # Rules that hold all day, and hidden hours beside holidays.
 run hours 'Mo, Dec 24 off'
 expect 'a rule of days alone' 0 '[[(t2h0m0){d1}]-[(M12d24h0m0){d1}]]' 'gtdesk: TEXT: warning WholeDay at 0: open'
+run hours 'Feb 1,24/7'
+expect 'a rule of days alone before 24/7' 0 '[[(M2d1h0m0){d1}]+[(h0m0){d1}]]' 'gtdesk: TEXT: warning WholeDay at 0: open'
 printf 'first,last,kind,name\n2026-01-01,2026-12-31,PH-covered,\n2026-12-25,,PH,Christmas\n' > days.csv
 run hours --holidays days.csv --years 2026 'Mo 08:00-12:00; Mo 13:00-17:00; PH off'
 expect 'hidden hours beside holidays' 0 '[[[[[(t2h0m0){d1}]*[(h8m0){m240}]]-[(t2h0m0){d1}]]+[[(t2h0m0){d1}]*[(h13m0){m240}]]]-[(y2026M12d25h0m0){d1}]]' \
