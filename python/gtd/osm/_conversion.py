@@ -19,7 +19,7 @@ _LEFT_OUT = b"element,key,value,fault\n"
 _HEADER = "element,key,value\n"
 _LISTED = re.compile(r"-:\d+: row (?P<row>\d+): (?P<fault>(?P<kind>\w+(?: [A-Z]\w+)?)(?: at \d+)?(?:: [-\d]+)?)")
 _OF_MEANS = re.compile(r".*:(?P<line>\d+): (?:row (?P<row>\d+): )?(?P<kind>\w+)")
-_OF_TABLE = re.compile(r"gtdesk: (?P<file>.*): (?:row (?P<row>\d+): )?(?P<kind>\w+)")
+_OF_TABLE = re.compile(r"gtdesk: (?P<file>.*?)(?:: row (?P<row>\d+))?: (?P<kind>\w+)")
 _OF_WORD = re.compile(r"gtdesk: (?P<said>[-A-Z]+: .*)")
 
 OPTIONS = ("holidays", "years", "open-end", "points", "sunrise", "sunset", "dawn", "dusk", "day-names")
