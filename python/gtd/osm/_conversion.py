@@ -118,7 +118,7 @@ class _Desk:
             raise Fault(of_means["kind"], file=self._means, line=int(of_means["line"]), row=row)
         if status == 1 and of_table:
             raise Fault(of_table["kind"], file=of_table["file"], row=int(of_table["row"]) if of_table["row"] else None)
-        if status == 2 and of_word:
+        if status in (1, 2) and of_word:
             raise ValueError(of_word["said"])
 
     def printed(self, rows: Sequence[Sequence[str]]) -> bytes:
