@@ -265,9 +265,16 @@ def states(folder):
     for name, domains_of in texts.items():
         file = folder.elements(f"now_{name}", domains_of)
         yield desk(f"65,536 elements of {domains_of[0]}", ["now", file, MOMENT, "11"])
-    months = folder.elements("now_months", ["(d1){M1}"] * MOST_ROWS)
-    yield desk("65,536 elements of (d1){M1}, one month after the other", ["now", months, MOMENT, "11"],
-               MOST_ROWS * 12 * 400, "months")
+    month = "(d1){M1}"
+    yield desk(f"65,536 elements of {month}, one month after the other",
+               ["now", folder.elements("now_months", [month] * MOST_ROWS), MOMENT, "11"])
+    turns = [month, f"{month}+(M2d30){{h1}}", f"{month}+(h5){{h1}}"]
+    yield desk("65,536 elements of (d1){M1} and two more, by turns",
+               ["now", folder.elements("now_turns", [turns[n % 3] for n in range(MOST_ROWS)]), MOMENT, "11"])
+    pairs = [(n // 2, turns[n // 2 % 2 * (1 + n % 2)]) for n in range(MOST_ROWS)]
+    text = HEADER + "".join(f"{element},both,0,{domain}\n" for element, domain in pairs)
+    yield desk("32,768 elements of (d1){M1} and another of these, by turns",
+               ["now", folder.file("now_pairs", text), MOMENT, "11"])
     yield desk(f"65,536 elements of {never}", ["faults", "--warn", folder.elements("warned", [never] * MOST_ROWS)])
     dated = never.replace("M2", "y2096M2")
     yield desk(f"65,536 elements of {dated}", ["faults", "--warn", folder.elements("warned_year", [dated] * MOST_ROWS)])

@@ -5,8 +5,9 @@ For each row of tests/hours/texts.csv, the domain that is printed contains the s
 model of hours, and as the domain beside them. For each row of tests/hours/faults.csv, that fault is printed, and nothing else.
 These texts are read with `--strict`, and printed alike without it. For each row of tests/hours/hidden.csv, the rules that hide
 hours are told with the hours beside them. For each row of tests/hours/loose.csv, `gtdesk hours` prints the domain of its mended
-text and tells its warnings, and `gtdesk mend hours` prints that text; or that tells its fault, and `gtdesk hours` with the times
-of the sun reads the mended text, or has a fault by the wider model. Whatever the text, the warnings that are told of plain hours
+text and tells its warnings, and `gtdesk mend hours` prints that text; or it is no plain hours, and `gtdesk hours` with the times
+of the sun reads the mended text, or has a fault by the wider model, and `gtdesk mend hours` prints a text with the same domain
+that stays as it is when it is mended again, or tells that fault. Whatever the text, the warnings that are told of plain hours
 are those by the model of hidden hours (tests/hidden_model.py).
 For these texts, for those of tests/rows/desk_hour*.rows that have a domain, and for texts of each form (every range of weekdays,
 months, weeks and so on that differs in how it is translated), `gtdesk hours --of DOMAIN` answers hours, whose domain is the same
@@ -38,6 +39,7 @@ from hours import Failure, expect
 
 PROGRAM = rows.PROGRAMS["gtdesk"]
 NO_DOMAIN = "gtdesk: TEXT: "
+NEEDS = re.compile(NO_DOMAIN + "(?:Holidays|Years|OpenEnd|Point|SunTime|Unknown) at ")
 LEAP_YEAR = 2000
 OFFSET = re.compile(r"\bdays?\b", re.I)
 SUN = [word for name, at in hours.SUN.items() for word in (f"--{name}", f"{at // 60:02}:{at % 60:02}")]
@@ -132,14 +134,24 @@ def check_wider_loose(row, names):
     expect((read.returncode, read.stdout, line_of(read, text)) == (1, "", wanted), f"{text!r}: {read}, by the model {wanted}")
 
 
+def check_wider_mended(text, read, mended):
+    """The mended text of a text that is no plain hours: it means the same, and mended again it is the same. Or the same fault."""
+    if read.returncode and not NEEDS.match(read.stderr):
+        expect((mended.returncode, mended.stdout, line_of(mended, text)) == (1, "", line_of(read, text)), f"{text!r}: {mended}")
+        return
+    strict = mended.stdout.rstrip("\n")
+    again, means = told("mend", "hours", "--", strict), told("hours", "--strict", *SUN, "--", strict)
+    expect((mended.returncode, again.returncode, again.stdout) == (0, 0, mended.stdout), f"{text!r}: {mended}, again {again}")
+    expect((means.returncode, means.stdout) == (read.returncode, read.stdout), f"{text!r}: {means}, mended from {read}")
+
+
 def check_loose(row):
     """The domain of a text and its warnings, and the text as it is mended; or its fault."""
     text, names = row["text"], ["--day-names", row["names"]] if row["names"] else []
     read, mended = told("hours", *names, "--", text), told("mend", "hours", *names, "--", text)
     if row["fault"]:
-        fault = (1, "", f"{NO_DOMAIN}{row['fault']}\n")
-        expect((mended.returncode, mended.stdout, line_of(mended, text)) == fault, f"{text!r}: {mended}")
         check_wider_loose(row, names)
+        check_wider_mended(text, told("hours", *SUN, *names, "--", text), mended)
         return
     warnings = warned(text, bool(row["names"]))
     expect(listed(warnings) == row["warnings"], f"{text!r}: {warnings}")

@@ -1,5 +1,5 @@
 #!/usr/bin/env python3
-"""Compares what gtd_hours_days answers with the plain model: the worked rows in holidays/, and drawn tables, years and
+"""Compares what holidays become, and their domain, with the plain model: the worked rows in holidays/, and drawn tables, years and
 selectors. The program is holidays/main.rattle, built without its proofs.
 
 With an argument, that many are drawn."""
@@ -10,7 +10,7 @@ import sys
 import holidays_model as model
 import trial
 
-CRATES = "gtd_core gtd_text gtd_hours_leaves gtd_hours_holidays gtd_hours_days"
+CRATES = "gtd_text gtd_hours gtd_hours_domain gtd_hours_holidays gtd_hours_days gtd_hours_known"
 MOST_BASIC_DOMAINS = 128
 OFFSETS = (-366, -31, -2, -1, 0, 1, 2, 6, 49, 365, 366)
 

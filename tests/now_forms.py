@@ -4,8 +4,8 @@
 JSON as Python reads it, and the columns of the table, say the same as the lines of fields, for all elements and for closed
 ones. With `--why`, each row that a line names is told below it: the line of the file on which it begins, its number, the text
 that `gtd canon` prints of its domain, and the words of `gtdesk words`. The files have empty lines and line ends of each kind. A
-note is told exactly if no row is for the vehicle type. With `--zone`, the moment is what `date` prints in that zone. Run it
-after `rt ci`, which builds the programs.
+note is told exactly if no row is for the vehicle type. Each element has the lines that it has alone. With `--zone`, the moment
+is what `date` prints in that zone. Run it after `rt ci`, which builds the programs.
 
 Usage: tests/now_forms.py [COUNT [SEED]]
 """
@@ -37,10 +37,10 @@ def run(program, *words, note=""):
     return done.stdout.decode()
 
 
-def rows_of(dice):
+def rows_of(dice, most=12):
     """The rows of a random file."""
     return [[str(dice.choice(ELEMENTS)), dice.choice(["positive", "negative", "both"]), dice.choice(["0", "11", "12"]),
-             dice.choice(DOMAINS)] for _ in range(dice.randint(0, 12))]
+             dice.choice(DOMAINS)] for _ in range(dice.randint(0, most))]
 
 
 def moment_of(dice):
@@ -111,6 +111,19 @@ def check(dice, rows, moment, *options):
             assert now("--why", *form).splitlines() == [line for entry in entries for line in entry]
 
 
+def check_alone(dice, rows, moment):
+    """Among many elements, of which some are closed by the same domains, each has the lines that it has alone."""
+    text, _ = text_of(dice, rows)
+    with tempfile.NamedTemporaryFile("w", suffix=".csv", newline="", encoding="utf-8") as file:
+        file.write(text)
+        file.flush()
+        some = any(row[2] in ("0", "11") for row in rows)
+        note = "" if some else f"gtdesk: {file.name}: note: no row is for vehicle type 11\n"
+        now = lambda *options: run("gtdesk", "now", file.name, moment, "11", *options, note=note).splitlines()[1:]
+        elements = sorted({int(row[0]) for row in rows})
+        assert now() == [line for element in elements for line in now("--element", str(element))]
+
+
 def check_zone(zone):
     """The moment of the clock of a zone is what `date` prints, before or after."""
     rows = "element,direction,vehicle,domain\n1,both,0,\n2,both,0,(h0){h12}\n3,both,0,(m30){m30}\n"
@@ -133,9 +146,10 @@ def main():
         rows, moment = rows_of(dice), moment_of(dice)
         for options in ([], ["--closed"], ["--element", "17,9999999999"]):
             check(dice, rows, moment, *options)
+        check_alone(dice, rows_of(dice, 40), moment)
     for zone in ZONES:
         check_zone(zone)
-    print(f"now_forms: {3 * count + len(ZONES)} passed, 0 failed")
+    print(f"now_forms: {4 * count + len(ZONES)} passed, 0 failed")
 
 
 if __name__ == "__main__":

@@ -184,6 +184,7 @@ program_refused 0 hours 'mo-fr 8:00-9:00 10:00-11:00;'
 program_refused 0 hours --strict 'Mo-Fr 08:00-09:00'
 program_refused 0 mend hours 'mo-fr 8:00-9:00 10:00-11:00;'
 program_refused 1 mend hours 'Mo-Fr PH off'
+program_refused 0 mend hours 'PH,easter 17:00+ "a", Mo 8:00 || dawn-dusk'
 program_refused 0 mend hours --day-names de 'Do,So 8:00-9:00'
 program_refused 1 hours --day-names fr Mo
 program_refused 0 hours --of '(t2t3t4t5t6h0m0){d1}*[(h7m0){m120}+(h16m0){m120}]'

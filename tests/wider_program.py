@@ -5,8 +5,8 @@ For each row of moving.csv, easter.csv, remarks.csv and moments.csv in tests/hou
 minutes of four years as the hours by tests/wider_model.py, and as the domain beside them, and its warnings are told; or its
 fault is. Then, for SECONDS, drawn texts, tables, years and options: rules with holidays, moments and comments, unknown rules
 and fallback rules. The domains are compared at the first and the last minutes of stretches and at random seconds, and the
-faults of texts that are damaged or for which not all is given. Run it after `rt ci`, which builds the programs; GTDESK in the
-environment names another one.
+faults of texts that are damaged or for which not all is given. The text that `gtdesk mend hours` prints means the same, and
+mended again it is the same. Run it after `rt ci`, which builds the programs; GTDESK in the environment names another one.
 
 Usage: tests/wider_program.py [SECONDS [SEED]]    (without SECONDS no drawn texts; the same seed draws the same)
 """
@@ -23,7 +23,7 @@ import model
 import moments
 import wider_model
 from hours import expect
-from hours_program import NO_DOMAIN, line_of, told
+from hours_program import NEEDS, NO_DOMAIN, line_of, told
 
 TABLES = os.path.join(hours.TOP, "holidays")
 STATES = ["", "", "", "", " off", " open", ' "by appointment"', ' open "a, b; c"', ' off "a || b"', " unknown", ' unknown "ask"']
@@ -135,6 +135,22 @@ def check_seconds(chance, name, rules, domain, first):
         expect(model.contains(domain, second) == opened, f"{name}: second {second} is {'open' if opened else 'closed'}")
 
 
+def check_mended(chance, text, rules, given):
+    """The mended text of a text that is not at fault itself: with what is given it says the same of seconds, or has such a fault,
+    too; mended again it is the same. A strict text that is at fault may be written loosely."""
+    done, fault = told("mend", "hours", "--", text), read(text, None, "", {})[1]
+    if fault and not NEEDS.match(NO_DOMAIN + fault):
+        return
+    mended = done.stdout[:-1]
+    again, (other, kind) = told("mend", "hours", "--", mended), read(mended, *given)
+    expect((done.returncode, again.returncode, again.stdout) == (0, 0, done.stdout), f"{text!r}: {done}, again {again}")
+    expect((other is None) == (rules is None), f"{text!r}: {mended!r} has {kind}")
+    for _ in range(60 if rules else 0):
+        second = (datetime.date(int(given[1][:4]), 1, 1) - hours_model.EPOCH).days * 86400 + 60 * chance.randrange(1440 * 800)
+        said = wider_model.state(rules, second)
+        expect(said == wider_model.state(other, second), f"{text!r}: {mended!r} differs at {second}")
+
+
 def check_drawn(chance, folder):
     """A drawn text with a table, years and options. Answers whether there is a domain to compare."""
     rows, years = known_program.drawn_table(chance)
@@ -147,6 +163,7 @@ def check_drawn(chance, folder):
     domain, said = run(text, path, years, options)
     rules, fault = read(text, rows, years, options)
     expect(is_same((domain, said), fault, text), f"{text!r} {years} {options}: {said}, by the model {fault}")
+    check_mended(chance, text, rules, (rows, years, options))
     if domain is None:
         return False
     expect(without_hides(said) == warned(text, rules, years), f"{text!r}: {said!r}, by the model {warned(text, rules, years)!r}")

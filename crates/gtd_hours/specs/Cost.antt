@@ -7,7 +7,7 @@ use Rattle.gtd_hours.specs.Ranges.{end_of}
 use Rattle.gtd_hours.specs.declared.places.End.{End}
 use Rattle.gtd_hours.specs.declared.hours.Selector.{Selector}
 use Rattle.gtd_hours.specs.declared.hours.Selector.TheVariants.{Years, Months, Dates, Dated, Weeks, Weekdays, Nth, NthBack}
-use Rattle.gtd_hours.specs.declared.hours.Selector.TheVariants.{Moved, Moving}
+use Rattle.gtd_hours.specs.declared.hours.Selector.TheVariants.{Moved, Moving, Yearly}
 use Rattle.gtd_hours.specs.declared.hours.MonthDay.{MonthDay}
 use Rattle.gtd_hours.specs.declared.hours.Kind.{Kind}
 use Rattle.gtd_hours.specs.declared.hours.TimeRange.{TimeRange}
@@ -17,6 +17,7 @@ use Rattle.gtd_hours.specs.declared.hours.Modifier.{Modifier}
 use Rattle.gtd_hours.specs.declared.hours.Modifier.TheVariants.{Open, Closed}
 use Rattle.gtd_hours.specs.declared.hours.Rule.{Rule}
 use Rattle.gtd_hours.specs.declared.hours.Hours.{Hours}
+use Rattle.gtd_hours.specs.declared.hours.YearlyDays.{YearlyDays}
 
 -- a count as it is computed: one that is greater than this stays at it
 abbrev pub most_counted : ℕ
@@ -92,10 +93,22 @@ selector_cost (Nth place) = 1
 selector_cost (NthBack place) = 1
 selector_cost (Moved place) = moved_cost place.is_before place.days
 selector_cost (Moving range) = moving_cost range.is_over range.first range.last
+selector_cost (Yearly days) = 1
+
+-- the next selector has days of the same years
+abbrev pub goes_on : YearlyDays → List Selector → Bool
+goes_on x [] = false
+goes_on x (Yearly y ∷ xs) = (x.first == y.first) && (x.last == y.last)
+goes_on x (y ∷ xs) = false
+
+-- the years of days that come each year: once for all that stand one behind another
+abbrev pub met_cost : Selector → List Selector → ℕ
+met_cost (Yearly x) xs = if goes_on x xs then 0 else 1
+met_cost x xs = 0
 
 abbrev pub selectors_cost : List Selector → ℕ
 selectors_cost [] = 0
-selectors_cost (x ∷ xs) = selector_cost x + selectors_cost xs
+selectors_cost (x ∷ xs) = selector_cost x + met_cost x xs + selectors_cost xs
 
 -- all that are given are met; nothing takes one basic domain, and so do all days
 abbrev pub kinds_cost : List Kind → ℕ

@@ -5,6 +5,7 @@ pub mod Opening
 pub mod Ranges
 pub mod Writable
 pub mod Written
+pub mod Yearly
 pub mod facts
 pub use Rattle.gtd_core.specs.Limits
 pub use Rattle.gtd_core.specs.Seconds

@@ -5,12 +5,13 @@ use Rattle.std.specs.Prelude.{◌≡◌, ◌⊎◌, ℕ, ◌+◌, ◌-◌, ◌*�
 use Rattle.gtd_core.specs.Limits.{day_seconds}
 use Rattle.gtd_core.specs.Seconds.{IsOnDay}
 use Rattle.gtd_calendar.specs.declared.day.DayFields.{DayFields}
-use Rattle.gtd_calendar.specs.Calendar.{AreFieldsOf, day_number}
+use Rattle.gtd_calendar.specs.Calendar.{AreFieldsOf, day_number, first_day}
 use Rattle.gtd_hours.specs.Moving.{IsInMoving, IsMovedFrom}
 use Rattle.gtd_hours.specs.Ranges.{end_of}
+use Rattle.gtd_hours.specs.Yearly.{IsOfDays}
 use Rattle.gtd_hours.specs.declared.hours.Selector.{Selector}
 use Rattle.gtd_hours.specs.declared.hours.Selector.TheVariants.{Years, Months, Dates, Dated, Weeks, Weekdays, Nth, NthBack}
-use Rattle.gtd_hours.specs.declared.hours.Selector.TheVariants.{Moved, Moving}
+use Rattle.gtd_hours.specs.declared.hours.Selector.TheVariants.{Moved, Moving, Yearly}
 use Rattle.gtd_hours.specs.declared.hours.Kind.{Kind}
 use Rattle.gtd_hours.specs.declared.hours.TimeRange.{TimeRange}
 use Rattle.gtd_hours.specs.declared.hours.Link.{Link}
@@ -48,6 +49,8 @@ HoldsOn (Nth place) n f = (f.weekday ≡ place.weekday) × (f.nth ≡ place.numb
 HoldsOn (NthBack place) n f = (f.weekday ≡ place.weekday) × (f.nth_back ≡ place.number)
 HoldsOn (Moved place) n f = IsMovedFrom place n
 HoldsOn (Moving range) n f = IsInMoving range.is_over range.first range.last n
+HoldsOn (Yearly days) n f =
+    (first_day (pos days.first) ≤ℤ n) × (n <ℤ first_day (pos (days.last + 1))) × IsOfDays days.month days.day days.days n
 
 -- one of the selectors holds
 abbrev pub SomeHolds : List Selector → ℤ → DayFields → Type 0

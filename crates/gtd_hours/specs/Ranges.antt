@@ -42,6 +42,12 @@ IsDatedRange year month day last_year last_month last_day =
     (day_number (pos year) month day ≤ℤ day_number (pos last_year) last_month last_day)
     × (day_number (pos last_year) last_month last_day <ℤ (day_number (pos year) month day +ℤ pos 36600))
 
+-- Days of each of some years, at most a hundred: from a date on that each year has, as 2001 is no leap year, and at most 366.
+abbrev pub IsYearlyDays : ℕ → ℕ → ℕ → ℕ → ℕ → Type 0
+IsYearlyDays first last month day days =
+    (1800 ≤ first) × (first ≤ last) × (last ≤ 2799) × (last < first + 100) × IsDate (pos 2001) month day
+    × (1 ≤ days) × (days ≤ 366)
+
 -- the minute at which a range of times ends: on the next day, where it would not be after the first one
 abbrev pub end_of : ℕ → ℕ → ℕ
 end_of begin last = if nat_lt begin last then last else last + 1440

@@ -3,7 +3,7 @@ use Rattle.std.specs.Prelude.{ℕ, ◌+◌, ◌/◌, ◌%◌, ◌==◌, ◌&&◌
 use Rattle.std.specs.Prelude.{decimal, if◌then◌else◌}
 use Rattle.gtd_hours.specs.declared.hours.Selector.{Selector}
 use Rattle.gtd_hours.specs.declared.hours.Selector.TheVariants.{Years, Months, Dates, Dated, Weeks, Weekdays, Nth, NthBack}
-use Rattle.gtd_hours.specs.declared.hours.Selector.TheVariants.{Moved, Moving}
+use Rattle.gtd_hours.specs.declared.hours.Selector.TheVariants.{Moved, Moving, Yearly}
 use Rattle.gtd_hours.specs.declared.hours.WeekdayPlace.{WeekdayPlace}
 use Rattle.gtd_hours.specs.declared.places.End.{End}
 use Rattle.gtd_hours.specs.declared.places.End.TheVariants.{Date, Place}
@@ -18,6 +18,7 @@ use Rattle.gtd_hours.specs.declared.hours.Modifier.{Modifier}
 use Rattle.gtd_hours.specs.declared.hours.Modifier.TheVariants.{Open, Closed}
 use Rattle.gtd_hours.specs.declared.hours.Rule.{Rule}
 use Rattle.gtd_hours.specs.declared.hours.Hours.{Hours}
+use Rattle.gtd_hours.specs.declared.hours.YearlyDays.{YearlyDays}
 
 -- a number of two digits, and one of four
 abbrev pub two_digits : ℕ → List ℕ
@@ -105,6 +106,12 @@ abbrev pub end_text : End → List ℕ
 end_text (Date date) = month_day_text date
 end_text (Place x) = month_name x.month ++ codes " " ++ moved_text x.place
 
+-- Days of each of some years, which no text has: the years, the first of the days, and how many they are.
+abbrev pub yearly_text : YearlyDays → List ℕ
+yearly_text x =
+    four_digits x.first ++ codes "-" ++ four_digits x.last ++ codes " " ++ month_name x.month ++ codes " " ++ decimal x.day
+    ++ step_text x.days
+
 -- a selector, and whether another kind of selectors follows
 abbrev pub selector_text : Bool → Selector → List ℕ
 selector_text follows (Years years) = years_text follows years.first years.last years.step
@@ -117,6 +124,7 @@ selector_text follows (Nth place) = weekday_name place.weekday ++ codes "[" ++ d
 selector_text follows (NthBack place) = weekday_name place.weekday ++ codes "[-" ++ decimal place.number ++ codes "]"
 selector_text follows (Moved place) = moved_text place
 selector_text follows (Moving range) = end_text range.first ++ codes "-" ++ end_text range.last
+selector_text follows (Yearly days) = yearly_text days
 
 -- those of one kind, with commas between them
 abbrev pub more_selectors_text : Bool → List Selector → List ℕ
@@ -135,6 +143,7 @@ kind_word (Nth place) = []
 kind_word (NthBack place) = []
 kind_word (Moved place) = []
 kind_word (Moving range) = []
+kind_word (Yearly days) = []
 
 abbrev pub kind_text : Bool → List Selector → List ℕ
 kind_text follows [] = []

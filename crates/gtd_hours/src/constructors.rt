@@ -1,12 +1,13 @@
 //! Parts of opening hours are made only within their ranges.
 
-ghost use Rattle.std.specs.Prelude.{◌≡◌, ◌↔◌, IfSome, IsSome};
+ghost use Rattle.std.specs.Prelude.{◌≡◌, ◌↔◌, ◌<◌, ◌≤◌, ◌+◌, pos, IfSome, IsSome, IsTrue};
 ghost use Rattle.gtd_hours.specs.Ranges.{IsDatedRange, IsMonth, IsMonthDay, IsTimeRange, IsWeekday, IsWeekdayPlace};
-ghost use Rattle.gtd_hours.specs.Ranges.{IsMovable, IsWeeks, IsYearDate, IsYears};
+ghost use Rattle.gtd_hours.specs.Ranges.{IsMovable, IsWeeks, IsYearDate, IsYearlyDays, IsYears};
+ghost use Rattle.gtd_calendar.specs.Calendar.{IsDate};
 
 use crate::dated::is_dated_range;
 use crate::hours::{
-    Dated, MonthDay, Months, TimeRange, WeekdayPlace, Weekdays, Weeks, YearDate, Years,
+    Dated, MonthDay, Months, TimeRange, WeekdayPlace, Weekdays, Weeks, YearDate, YearlyDays, Years,
 };
 use crate::places::{MonthPlace, MovedPlace};
 use gtd_calendar::day_of;
@@ -161,6 +162,44 @@ impl MonthPlace {
         } else {
             None
         }
+    }
+}
+
+// Whether each year has the date: 2001 is no leap year.
+fn is_each_year(month: u8, day: u8) -> bool
+    ensures { IsTrue result ↔ IsDate (pos 2001) month day }
+{
+    day_of(2001, month, day).is_some()
+}
+
+// Whether these are years of the calendar, in order and at most a hundred.
+fn are_years(first: u16, last: u16) -> bool
+    ensures { IsTrue result ↔ ((1800 ≤ first) × (first ≤ last) × (last ≤ 2799) × (last < first + 100)) }
+{
+    1800 <= first && first <= last && last <= 2799 && last - first < 100
+}
+
+impl YearlyDays {
+    /// So many days from a date on, in each year from the first to the last. `None` exactly if a year is not from 1800 to 2799,
+    /// the last comes before the first, they are more than a hundred, not each year has the date, or the days are not 1 to 366.
+    pub fn new(first: u16, last: u16, month: u8, day: u8, days: u16) -> Option<YearlyDays>
+        ensures kept { IfSome result (λ x. (x.first ≡ first) × (x.last ≡ last) × (x.month ≡ month) × (x.day ≡ day)
+            × (x.days ≡ days)) }
+        ensures accepted { IsSome result ↔ IsYearlyDays first last month day days }
+    {
+        if !are_years(first, last) || !is_each_year(month, day) {
+            return None;
+        }
+        if days == 0 || 366 < days {
+            return None;
+        }
+        Some(YearlyDays {
+            first,
+            last,
+            month,
+            day,
+            days,
+        })
     }
 }
 

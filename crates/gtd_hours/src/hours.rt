@@ -2,7 +2,7 @@
 
 ghost use Rattle.std.specs.Prelude.{◌≡◌, ◌↔◌, IfSome, IsSome};
 ghost use Rattle.gtd_hours.specs.Ranges.{IsDatedRange, IsMonth, IsMonthDay, IsTimeRange, IsWeekday, IsWeekdayPlace};
-ghost use Rattle.gtd_hours.specs.Ranges.{IsWeeks, IsYearDate, IsYears};
+ghost use Rattle.gtd_hours.specs.Ranges.{IsWeeks, IsYearDate, IsYearlyDays, IsYears};
 ghost use Rattle.std.proofs.Props.{props};
 
 use crate::moving::Moving;
@@ -103,6 +103,22 @@ pub struct WeekdayPlace {
     pub ghost in_range: { IsWeekdayPlace weekday number } by { Prim.hlevel props },
 }
 
+/// The same days of each of some years, at most a hundred, as the holidays that are known in these. No text of hours has them.
+#[derive(Clone, Copy, Debug, PartialEq, Eq)]
+pub struct YearlyDays {
+    /// The first year, 1800 at least.
+    pub first: u16,
+    /// The last year, not before the first, 2799 at most. Days of these years alone are meant.
+    pub last: u16,
+    /// The month of the first of the days, 1 to 12.
+    pub month: u8,
+    /// The first of the days, which the month has in each year.
+    pub day: u8,
+    /// How many consecutive days they are, 1 to 366.
+    pub days: u16,
+    pub ghost in_range: { IsYearlyDays first last month day days } by { Prim.hlevel props },
+}
+
 /// What holds on some days.
 #[derive(Clone, Copy, Debug, PartialEq, Eq)]
 pub enum Selector {
@@ -126,6 +142,8 @@ pub enum Selector {
     Moved(MovedPlace),
     /// `Mar Su[-1]-Oct 15`
     Moving(Moving),
+    /// Days that come in each of some years.
+    Yearly(YearlyDays),
 }
 
 /// The selectors of one kind, of which one must hold.

@@ -6,7 +6,7 @@
 
 pub use hours::{
     Dated, Dates, Hours, Kind, Link, Modifier, MonthDay, Months, Rule, Selector, TimeRange,
-    WeekdayPlace, Weekdays, Weeks, YearDate, Years,
+    WeekdayPlace, Weekdays, Weeks, YearDate, YearlyDays, Years,
 };
 pub use moving::Moving;
 pub use places::{End, MonthPlace, MovedPlace};

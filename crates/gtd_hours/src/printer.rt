@@ -7,11 +7,11 @@ ghost use Rattle.gtd_hours.specs.Written.{kind_word, kinds_text, link_text, modi
 ghost use Rattle.gtd_hours.specs.Written.{months_text, more_rules_text, more_selectors_text, more_times_text, needs_word};
 ghost use Rattle.gtd_hours.specs.Written.{rule_text, rules_text, selector_text, spans_text, step_text, time_text, times_text};
 ghost use Rattle.gtd_hours.specs.Written.{two_digits, weekday_name, weekdays_text, weeks_text, year_date_text, years_text};
-ghost use Rattle.gtd_hours.specs.Written.{end_text, moved_text, offset_text};
+ghost use Rattle.gtd_hours.specs.Written.{end_text, moved_text, offset_text, yearly_text};
 
 use crate::hours::{
     Dated, Dates, Hours, Kind, Link, Modifier, MonthDay, Months, Rule, Selector, TimeRange,
-    WeekdayPlace, Weekdays, Weeks, YearDate, Years,
+    WeekdayPlace, Weekdays, Weeks, YearDate, YearlyDays, Years,
 };
 use crate::moving::Moving;
 use crate::places::{End, MonthPlace, MovedPlace};
@@ -201,6 +201,7 @@ fn push_selector(out: &mut String, follows: bool, selector: Selector) -> Result<
         Selector::NthBack(place) => push_place(out, "[-", place),
         Selector::Moved(place) => push_moved(out, place),
         Selector::Moving(range) => push_moving(out, range),
+        Selector::Yearly(days) => push_yearly(out, days),
     }
 }
 
@@ -354,6 +355,27 @@ fn push_month_place(out: &mut String, place: MonthPlace) -> Result<(), AllocErro
     out.push_str(month_name(place.month))?;
     out.push_str(" ")?;
     push_moved(out, place.place)
+}
+
+fn push_yearly(out: &mut String, days: YearlyDays) -> Result<(), AllocError>
+    ensures { OnOk result (string_bytes out.new ≡ string_bytes out.old ++ yearly_text days) }
+{
+    push_four_digits(out, days.first)?;
+    out.push_str("-")?;
+    push_four_digits(out, days.last)?;
+    out.push_str(" ")?;
+    push_first_day(out, days)?;
+    push_step(out, days.days)
+}
+
+// The month and the day of the first of the days.
+fn push_first_day(out: &mut String, days: YearlyDays) -> Result<(), AllocError>
+    ensures { OnOk result (string_bytes out.new
+        ≡ string_bytes out.old ++ (month_name days.month ++ codes " " ++ decimal days.day)) }
+{
+    out.push_str(month_name(days.month))?;
+    out.push_str(" ")?;
+    out.push_str(Buffer::new().format(days.day))
 }
 
 fn push_times(out: &mut String, times: &[TimeRange]) -> Result<(), AllocError>

@@ -64,6 +64,7 @@ no_years (selector.Nth x ∷ kind) e = refl
 no_years (selector.NthBack x ∷ kind) e = refl
 no_years (selector.Moved x ∷ kind) e = refl
 no_years (selector.Moving x ∷ kind) e = refl
+no_years (selector.Yearly x ∷ kind) e = refl
 
 both_true : (a b : Bool) → (a && b) ≡ true → (a ≡ true) × (b ≡ true)
 both_true true true e = (refl, refl)

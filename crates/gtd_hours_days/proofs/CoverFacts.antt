@@ -226,6 +226,3 @@ all_short days years yearly dated g near =
       | inl x ↦ rw x.2 (short_others days years g.runs g.found g.others g.split short)
       | inr x ↦ rw x.2 short
     ]
-
-pub as_written : (e b q : Type 0) → (q ↔ b) → (e ↔ b) → e ↔ q
-as_written e b q f g = ((λ x. f.1 (g.0 x)), (λ x. g.1 (f.0 x)))

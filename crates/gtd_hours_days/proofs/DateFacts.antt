@@ -9,7 +9,7 @@ use Rattle.gtd_calendar.specs.Calendar.{IsCalendarDay, IsDate, IsDateOf, day_num
 use Rattle.gtd_calendar.specs.facts.DateLemmas.{date-unique, date_of-only, day_number-in_year}
 use Rattle.gtd_calendar.specs.facts.OrderLemmas.{year_of-calendar}
 use Rattle.gtd_calendar.specs.facts.YearLemmas.{first_day-more, first_day-next}
-use Rattle.gtd_hours_days.specs.Groups.{IsMonthDayOf}
+use Rattle.gtd_hours.specs.Yearly.{IsMonthDayOf}
 
 -- ---- dates that each year has
 

@@ -6,6 +6,5 @@ pub mod DateFacts
 pub mod EasterFacts
 pub mod OneGrouping
 pub mod OrderFacts
-pub mod PartFacts
 pub mod SplitFacts
 pub mod YearlyFacts

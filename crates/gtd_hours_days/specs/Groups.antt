@@ -1,8 +1,9 @@
 -- How a set of days is written within some years: runs of days that come each year are groups, the others have their years.
 use Rattle.std.specs.Prelude.{◌≡◌, ◌⊎◌, ◌<◌, ◌≤◌, ◌+◌, ℕ, max, List, [], ◌∷◌, length, Option, Some, None, ⊤}
-use Rattle.std.specs.Prelude.{ℤ, pos, ◌+ℤ◌, ◌-ℤ◌, ◌≤ℤ◌, ◌<ℤ◌}
+use Rattle.std.specs.Prelude.{ℤ, pos, ◌+ℤ◌, ◌≤ℤ◌, ◌<ℤ◌}
 use Rattle.gtd_core.specs.Limits.{first_calendar_day}
-use Rattle.gtd_calendar.specs.Calendar.{IsDateOf, first_day}
+use Rattle.gtd_calendar.specs.Calendar.{first_day}
+use Rattle.gtd_hours.specs.Yearly.{IsMonthDayOf, IsOfDays}
 use Rattle.gtd_hours_holidays.specs.Days.{IsIn}
 use Rattle.gtd_hours_holidays.specs.KnownYears.{IsOfYears}
 use Rattle.gtd_hours_holidays.specs.Runs.{AreRuns}
@@ -13,13 +14,9 @@ use Rattle.gtd_hours_days.specs.declared.group.Group.{Group}
 
 -- ---- groups
 
--- day n is this day of the month in some year
-abbrev pub IsMonthDayOf : ℕ → ℕ → ℤ → Type 0
-IsMonthDayOf month day n = (y : ℤ) × IsDateOf n y month day
-
 -- Day n is one of the group's: it comes after the group's first day of some year by fewer days than the group has.
 abbrev pub IsOfGroup : Group → ℤ → Type 0
-IsOfGroup group n = (k : ℕ) × (k < group.days) × IsMonthDayOf group.month group.day (n -ℤ pos k)
+IsOfGroup group n = IsOfDays group.month group.day group.days n
 
 -- the run begins on the group's first day, and has as many days
 abbrev pub HasGroup : Run → Group → Type 0

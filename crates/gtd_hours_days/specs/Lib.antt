@@ -7,11 +7,9 @@ pub mod Parts
 pub mod Ranges
 pub mod Selections
 pub use Rattle.gtd_core.specs.Limits
-pub use Rattle.gtd_core.specs.Trees
 pub use Rattle.gtd_calendar.specs.Calendar
-pub use Rattle.gtd_eval.specs.Membership
 pub use Rattle.gtd_hours.specs.Moving
-pub use Rattle.gtd_hours_leaves.specs.Leaves
+pub use Rattle.gtd_hours.specs.Yearly
 pub use Rattle.gtd_hours_holidays.specs.Days
 pub use Rattle.gtd_hours_holidays.specs.KnownYears
 pub use Rattle.gtd_hours_holidays.specs.Runs

@@ -1,7 +1,7 @@
-//! The days of holidays and of Easter, as time domains.
+//! The days of holidays and of Easter.
 //!
-//! `listed_expr` answers the expression with exactly the days of some selectors, whose days are known in some years alone. It
-//! takes a run of days for each, or one basic domain for the same days of several years.
+//! `listed_grouping` answers the days of some selectors, which are known in some years alone: the same days of each of the years
+//! are a group, and other days are runs with their years.
 #![tactic(auto)]
 
 pub use coverage::{Uncovered, first_uncovered};
@@ -10,8 +10,7 @@ pub use group::Group;
 pub use grouping::{Grouping, grouping_of};
 pub use listed::{EasterDays, Listed};
 pub use offset::Offset;
-pub use selection::{ListedFault, listed_days, listed_expr};
-pub use set::{DaysFault, days_expr};
+pub use selection::{ListedFault, listed_days, listed_grouping};
 pub use yearly_day::YearlyDay;
 
 mod additions;
@@ -25,9 +24,7 @@ pub mod laws;
 mod listed;
 mod offset;
 mod order;
-mod parts;
 mod selection;
-mod set;
 mod split;
 mod yearly;
 mod yearly_day;

@@ -1,32 +1,23 @@
-//! The days of selectors, as a set and as an expression.
+//! The days of selectors, as a set, and as they are written.
 
 ghost use Rattle.std.specs.Prelude.{◌≡◌, ◌↔◌, ◌+ℤ◌, ℤ, pos, IfOk};
 ghost use Rattle.gtd_calendar.specs.Calendar.{IsCalendarDay, first_day};
-ghost use Rattle.gtd_core.specs.Trees.{leaf_count, tree_of};
-ghost use Rattle.gtd_hours_leaves.specs.Leaves.{AreDays, minutes_of};
 ghost use Rattle.gtd_hours_holidays.specs.Days.{IsIn};
 ghost use Rattle.gtd_hours_days.specs.Listed.{SomeListed};
-ghost use Rattle.gtd_hours_days.specs.Selections.{AreSelected, IsSelection};
+ghost use Rattle.gtd_hours_days.specs.Selections.{AreGrouped, AreSelected};
 
 use crate::additions::add_listed;
 use crate::coverage::{Uncovered, first_uncovered};
+use crate::grouping::{Grouping, grouping_of};
 use crate::listed::Listed;
-use crate::set::{DaysFault, days_expr};
-use gtd_core::Expr;
 use gtd_hours_holidays::{Days, HolidayRow, Holidays, KnownYears};
-use gtd_hours_leaves::Clock;
 use std::alloc::{AllocError, Global};
 
-/// Why selectors have no days, or no expression.
+/// Why selectors have no days.
 #[derive(Clone, Copy, Debug, PartialEq, Eq)]
 pub enum ListedFault {
     /// The table of holidays does not say all that a selector needs.
     Uncovered(Uncovered),
-    /// The expression would have more than 128 basic domains.
-    TooMany {
-        /// How many it would have.
-        needed: usize,
-    },
     /// Memory was refused.
     NoMemory,
 }
@@ -83,26 +74,18 @@ pub fn listed_days(
     Ok(days)
 }
 
-/// The days on which one of the selectors holds, as an expression, where a day is from the clock on for 24 hours.
-///
-/// The answer is `Uncovered` exactly if the table does not say all holidays of the years for some selector, and otherwise
-/// `TooMany` exactly if more than 128 basic domains are needed, which are counted before the expression takes memory; `NoMemory`
-/// only if memory was refused.
-pub fn listed_expr(
+/// The days on which one of the selectors holds, as they are written: groups that come in each of the years, and runs with
+/// their years. The answer is `Uncovered` exactly if the table does not say all holidays of the years for some selector,
+/// `NoMemory` only if memory was refused.
+pub fn listed_grouping(
     alloc: Global,
     holidays: &Holidays,
     years: KnownYears,
     listed: &[Listed],
-    clock: Clock,
-) -> Result<Expr, ListedFault>
-    ensures selection { IsSelection holidays.now years listed.now (minutes_of clock) result }
+) -> Result<Grouping, ListedFault>
+    ensures grouped { AreGrouped holidays.now years listed.now result }
 {
     let days = listed_days(alloc, holidays, years, listed)?;
-    match days_expr(alloc, &days, years, clock) {
-        Ok(expr) => Ok(expr),
-        Err(fault) => match fault {
-            DaysFault::TooMany { needed } => Err(ListedFault::TooMany { needed }),
-            DaysFault::NoMemory => Err(ListedFault::NoMemory),
-        },
-    }
+    let found = grouping_of(alloc, &days, years)?;
+    Ok(found)
 }

@@ -9,3 +9,4 @@ pub mod RangeLemmas
 pub mod SaidLemmas
 pub mod SpanLemmas
 pub mod StretchLemmas
+pub mod YearlyLemmas

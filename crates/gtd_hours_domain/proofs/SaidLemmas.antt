@@ -4,7 +4,7 @@ use Rattle.std.proofs.Common.{List, [], ◌∷◌, nat_le}
 use Rattle.std.proofs.lemmas.Bool.{false≢true, leb-true, not-false, or_parts}
 use Rattle.gtd_core.specs.Seconds.{day_of_second}
 use Rattle.gtd_hours.specs.Cost.{ends_late, falls_back, some_falls_back}
-use Rattle.gtd_hours.specs.Opening.{InSpans, IsClosedBy, IsOnMatch, IsOpenAfter, IsOpenBy, IsTimeOn, Matches, SomeTime}
+use Rattle.gtd_hours.specs.Opening.{InSpans, IsClosedBy, IsOnMatch, IsOpenAfter, IsOpenBy, IsTimeOn, SomeTime}
 use Rattle.gtd_hours.specs.Ranges.{end_of}
 use Rattle.gtd_hours.specs.declared.hours.Kind.{Kind}
 use Rattle.gtd_hours.specs.declared.hours.TimeRange.{TimeRange}

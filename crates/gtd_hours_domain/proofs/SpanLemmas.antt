@@ -12,11 +12,6 @@ use Rattle.gtd_hours.specs.Opening.{InSpans, IsBetween, IsOnMatch, Matches, Some
 use Rattle.gtd_hours.specs.Ranges.{end_of}
 use Rattle.gtd_hours.specs.declared.hours.Kind.{Kind}
 use Rattle.gtd_hours.specs.declared.hours.TimeRange.{TimeRange}
-use Rattle.gtd_hours.specs.declared.hours.Rule.{Rule}
-use Rattle.gtd_hours.specs.declared.hours.Link.TheVariants.{Instead, Also}
-use Rattle.gtd_hours.specs.declared.hours.Modifier.TheVariants.{Open, Closed}
-use Rattle.gtd_hours.specs.declared.hours.Link.{Link}
-use Rattle.gtd_hours.specs.declared.hours.Modifier.{Modifier}
 
 -- a second is between two minutes of a day if the day, moved by the first, is its day, and its place is low
 pub between-moved : (n : ℤ) (a long : ℕ) (s : ℤ) → long ≤ 1440

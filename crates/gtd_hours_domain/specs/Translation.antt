@@ -1,9 +1,10 @@
 -- What the expressions of the translation contain.
 use Rattle.std.specs.Prelude.{◌≡◌, ◌⊎◌, ℕ, ◌+◌, ◌-◌, ◌<◌, ◌≤◌, ◌||◌, Bool, if◌then◌else◌, List, [], ◌∷◌}
-use Rattle.std.specs.Prelude.{Some, ℤ, pos, ◌+ℤ◌, ◌-ℤ◌, ◌≤ℤ◌, ◌<ℤ◌}
+use Rattle.std.specs.Prelude.{true, false, Option, Some, ℤ, pos, ◌+ℤ◌, ◌-ℤ◌, ◌≤ℤ◌, ◌<ℤ◌}
 use Rattle.gtd_core.specs.Ranges.{no_parts}
+use Rattle.gtd_core.specs.declared.domain.Expr.{Expr}
 use Rattle.gtd_core.specs.declared.start.StartParts.{StartParts}
-use Rattle.gtd_calendar.specs.Calendar.{weekday_of}
+use Rattle.gtd_calendar.specs.Calendar.{first_day, weekday_of}
 use Rattle.gtd_calendar.specs.ComputedEnds.{months_later}
 use Rattle.gtd_calendar.specs.ComputedFields.{day_fields}
 use Rattle.gtd_hours.specs.ComputedPlaces.{end_day}
@@ -14,9 +15,11 @@ use Rattle.gtd_hours.specs.Ranges.{end_of}
 use Rattle.gtd_hours.specs.declared.hours.Kind.{Kind}
 use Rattle.gtd_hours.specs.declared.hours.Rule.{Rule}
 use Rattle.gtd_hours.specs.declared.hours.Selector.{Selector}
+use Rattle.gtd_hours.specs.declared.hours.Selector.TheVariants.{Yearly}
 use Rattle.gtd_hours.specs.declared.places.End.{End}
 use Rattle.gtd_hours.specs.declared.places.MovedPlace.{MovedPlace}
 use Rattle.gtd_hours.specs.declared.hours.TimeRange.{TimeRange}
+use Rattle.gtd_hours_leaves.specs.Leaves.{InMaybe, moved_day}
 
 -- a month and a day of it
 abbrev pub on_month_day : ℕ → ℕ → StartParts
@@ -29,6 +32,27 @@ SomeHoldsAt selectors n = SomeHolds selectors n (day_fields n)
 -- of each kind one does
 abbrev pub EachHoldsAt : List Kind → ℤ → Type 0
 EachHoldsAt kinds n = EachHolds kinds n (day_fields n)
+
+-- a selector, or the first of some, has days that come each year
+abbrev pub is_yearly : Selector → Bool
+is_yearly (Yearly x) = true
+is_yearly x = false
+
+abbrev pub begins_yearly : List Selector → Bool
+begins_yearly [] = false
+begins_yearly (x ∷ xs) = is_yearly x
+
+-- it has, and day n is one of its years
+abbrev pub IsOfNextYears : List Selector → ℤ → Type 0
+IsOfNextYears [] n = ⊥
+IsOfNextYears (Yearly x ∷ xs) n = (first_day (pos x.first) ≤ℤ n) × (n <ℤ first_day (pos (x.last + 1)))
+IsOfNextYears (x ∷ xs) n = ⊥
+
+-- Before some selectors: the union has the second, or what comes each year does, in the years of the first selector, or the
+-- second is on a day on which one of the selectors holds.
+abbrev pub HasDays : Option Expr → Option Expr → List Selector → ℕ → ℤ → Type 0
+HasDays union each rest minutes s =
+    InMaybe union s ⊎ (InMaybe each s × IsOfNextYears rest (moved_day minutes s)) ⊎ SomeHoldsAt rest (moved_day minutes s)
 
 -- one of the ranges of times that end on their day holds the second, and one of those that end on a later day
 abbrev pub SomeEarly : List TimeRange → ℤ → ℤ → Type 0

@@ -4,13 +4,15 @@ ghost use Rattle.std.specs.Prelude.{◌≡◌, ◌+◌, ◌≤◌, ◌==◌, if�
 ghost use Rattle.gtd_hours.specs.Cost.{closed_cost_by, cost_after, counted, dates_cost, days_cost, early_cost, ends_late};
 ghost use Rattle.gtd_hours.specs.Cost.{falls_back, hours_cost, kinds_cost, open_cost_by, unsaid_cost};
 ghost use Rattle.gtd_hours_domain.specs.Translation.{up_to_fallback};
-ghost use Rattle.gtd_hours.specs.Cost.{late_cost, month_cost, moved_cost, moving_cost, rule_cost, selector_cost, selectors_cost};
+ghost use Rattle.gtd_hours.specs.Cost.{late_cost, met_cost, month_cost, moved_cost, moving_cost, rule_cost, selector_cost};
+ghost use Rattle.gtd_hours.specs.Cost.{selectors_cost};
 ghost use Rattle.gtd_hours.specs.Cost.{spans_cost};
 ghost use Rattle.gtd_hours.specs.Cost.{steps_cost, weeks_cost, years_cost};
 
 use crate::dates::{is_one_stretch, month_after};
 use crate::places::{days_on, end_days, months_between};
 use crate::spans::is_early;
+use crate::yearly::goes_on;
 use gtd_hours::{
     Dates, Hours, Kind, Link, Modifier, MovedPlace, Moving, Rule, Selector, TimeRange, Weeks, Years,
 };
@@ -124,6 +126,18 @@ fn selector_cost(selector: Selector) -> u32
         Selector::NthBack(_) => 1,
         Selector::Moved(place) => moved_cost(place),
         Selector::Moving(range) => moving_cost(range),
+        Selector::Yearly(_) => 1,
+    }
+}
+
+// What the years of days that come each year take, before these selectors.
+fn met_cost(selector: Selector, more: &[Selector]) -> u32
+    ensures value { result ≡ met_cost selector more.now }
+    ensures few { result ≤ 1 }
+{
+    match selector {
+        Selector::Yearly(days) => { if goes_on(days, more) { 0 } else { 1 } }
+        _ => 0,
     }
 }
 
@@ -133,7 +147,7 @@ fn selectors_cost(selectors: &[Selector]) -> u32
     let mut total = 0;
     let mut rest = selectors;
     while let Some((selector, more)) = rest.split_first() {
-        total = add(total, selector_cost(*selector));
+        total = add(total, selector_cost(*selector) + met_cost(*selector, more));
         rest = more;
     }
     total

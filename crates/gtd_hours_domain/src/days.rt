@@ -1,20 +1,22 @@
 //! The days that selectors match, as expressions.
 
 ghost use Rattle.std.specs.Prelude.{◌≡◌, ◌↔◌, ◌⊎◌, ◌+◌, ◌-◌, max, ◌/◌, ◌%◌, ◌^◌, ◌<◌, ◌≤◌, ℕ, ℤ, IfOk, IsTrue};
+ghost use Rattle.std.specs.Prelude.{◌∷◌, false, None};
 ghost use Rattle.gtd_core.specs.Trees.{leaf_count, tree_of};
 ghost use Rattle.gtd_eval.specs.Membership.{InTree};
 ghost use Rattle.gtd_hours.specs.Cost.{days_cost, kinds_cost, selector_cost, selectors_cost};
 ghost use Rattle.gtd_hours.specs.Opening.{IsRound, Matches};
-ghost use Rattle.gtd_hours_domain.specs.Translation.{EachHoldsAt, SomeHoldsAt};
-ghost use Rattle.gtd_hours_leaves.specs.Leaves.{AreDays, HoldsAt, minutes_of, moved_day};
+ghost use Rattle.gtd_hours_domain.specs.Translation.{EachHoldsAt, HasDays, SomeHoldsAt, begins_yearly, is_yearly};
+ghost use Rattle.gtd_hours_leaves.specs.Leaves.{AreDays, HoldsAt, InMaybe, maybe_leaves, minutes_of, moved_day};
 ghost use Rattle.gtd_hours.specs.declared.hours.Selector.TheVariants as selector;
 
 use crate::dated::dated_days;
 use crate::dates::{date_days, month_days};
 use crate::moving::{moved_days, moving_days};
+use crate::yearly::{SoFar, with_yearly};
 use gtd_core::{Expr, Op, StartParts};
 use gtd_hours::{Kind, Selector, WeekdayPlace, Weekdays};
-use gtd_hours_leaves::{Clock, NO_PARTS, each_day, join, nothing, week_days, year_days};
+use gtd_hours_leaves::{Clock, NO_PARTS, each_day, join, or_nothing, unite, week_days, year_days};
 use std::alloc::{AllocError, Global};
 
 fn has_weekday(days: Weekdays, weekday: u8) -> bool
@@ -98,6 +100,7 @@ fn nth_back_days(place: WeekdayPlace, clock: Clock) -> Expr
 }
 
 fn selector_days(alloc: Global, selector: Selector, clock: Clock) -> Result<Expr, AllocError>
+    requires { is_yearly selector ≡ false }
     ensures days { IfOk result (AreDays (minutes_of clock) (HoldsAt selector)) }
     ensures leaves { IfOk result (λ e. leaf_count (tree_of e) ≡ selector_cost selector) }
 {
@@ -112,42 +115,68 @@ fn selector_days(alloc: Global, selector: Selector, clock: Clock) -> Result<Expr
         Selector::NthBack(place) => Ok(nth_back_days(place, clock)),
         Selector::Moved(place) => moved_days(alloc, place, clock),
         Selector::Moving(range) => moving_days(alloc, range, clock),
+        Selector::Yearly(_) => unreachable!(),
     }
 }
 
-// The days of an expression, and those of selectors.
-fn or_days(
+// What there is so far, with the days of a selector that come not each year.
+fn with_other(
     alloc: Global,
-    first: Expr,
-    selectors: &[Selector],
+    so_far: SoFar,
+    selector: Selector,
     clock: Clock,
-) -> Result<Expr, AllocError>
-    ensures days { IfOk result (λ e. (s : ℤ) → InTree (tree_of e) s
-        ↔ (InTree (tree_of first) s ⊎ SomeHoldsAt selectors.now (moved_day (minutes_of clock) s))) }
-    ensures leaves { IfOk result
-        (λ e. leaf_count (tree_of e) ≡ leaf_count (tree_of first) + selectors_cost selectors.now) }
+) -> Result<SoFar, AllocError>
+    requires other { is_yearly selector ≡ false }
+    requires none { so_far.each ≡ None }
+    ensures days { IfOk result (λ then. (s : ℤ) → InMaybe then.union s
+        ↔ (InMaybe so_far.union s ⊎ HoldsAt selector (moved_day (minutes_of clock) s))) }
+    ensures leaves { IfOk result (λ then. maybe_leaves then.union ≡ maybe_leaves so_far.union + selector_cost selector) }
+    ensures none { IfOk result (λ then. then.each ≡ None) }
 {
-    let mut union = first;
-    let mut rest = selectors;
-    while let Some((selector, more)) = rest.split_first() {
-        let days = selector_days(alloc, *selector, clock)?;
-        union = join(alloc, Op::Union, union, days)?;
-        rest = more;
+    let days = selector_days(alloc, selector, clock)?;
+    let union = unite(alloc, so_far.union, days)?;
+    Ok(SoFar {
+        union: Some(union),
+        each: None,
+    })
+}
+
+// What there is so far, with the days of a selector, before these.
+fn with_selector(
+    alloc: Global,
+    so_far: SoFar,
+    selector: Selector,
+    more: &[Selector],
+    clock: Clock,
+) -> Result<SoFar, AllocError>
+    requires next { is_yearly selector ≡ false → so_far.each ≡ None }
+    ensures days { IfOk result (λ then. (s : ℤ)
+        → HasDays then.union then.each more.now (minutes_of clock) s
+        ↔ HasDays so_far.union so_far.each (selector ∷ more.now) (minutes_of clock) s) }
+    ensures leaves { IfOk result (λ then. maybe_leaves then.union + maybe_leaves then.each + selectors_cost more.now
+        ≡ maybe_leaves so_far.union + maybe_leaves so_far.each + selectors_cost (selector ∷ more.now)) }
+    ensures next { IfOk result (λ then. begins_yearly more.now ≡ false → then.each ≡ None) }
+{
+    match selector {
+        Selector::Yearly(days) => with_yearly(alloc, so_far, days, more, clock),
+        _ => with_other(alloc, so_far, selector, clock),
     }
-    Ok(union)
 }
 
 fn some_days(alloc: Global, selectors: &[Selector], clock: Clock) -> Result<Expr, AllocError>
     ensures days { IfOk result (AreDays (minutes_of clock) (SomeHoldsAt selectors.now)) }
     ensures leaves { IfOk result (λ e. leaf_count (tree_of e) ≡ max 1 (selectors_cost selectors.now)) }
 {
-    match selectors.split_first() {
-        None => Ok(nothing()),
-        Some((first, rest)) => {
-            let days = selector_days(alloc, *first, clock)?;
-            or_days(alloc, days, rest, clock)
-        }
+    let mut so_far = SoFar {
+        union: None,
+        each: None,
+    };
+    let mut rest = selectors;
+    while let Some((selector, more)) = rest.split_first() {
+        so_far = with_selector(alloc, so_far, *selector, more, clock)?;
+        rest = more;
     }
+    Ok(or_nothing(so_far.union))
 }
 
 // The days of an expression on which kinds of selectors hold.

@@ -16,3 +16,4 @@ mod places;
 mod said;
 mod spans;
 mod translate;
+mod yearly;

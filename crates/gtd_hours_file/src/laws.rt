@@ -10,7 +10,7 @@ ghost use Rattle.gtd_records.specs.Closing.{Closes, Restriction};
 ghost use Rattle.gtd_records.specs.File.{IsFile};
 ghost use Rattle.gtd_records.specs.declared.direction.Direction.{Direction};
 ghost use Rattle.gtd_report.specs.Putting.{text_of};
-ghost use Rattle.gtd_hours_options.specs.Readings.{AreReadInOneWay, HowRead};
+ghost use Rattle.gtd_hours_options.specs.Readings.{HowRead};
 ghost use Rattle.gtd_hours_file.specs.HoursFile.{IsHoursFile};
 ghost use Rattle.gtd_hours_file.specs.SameAnswers.{AreSameRestrictions, AreSameRows, IsEachRead, IsSameAnswer};
 ghost use Rattle.gtd_hours_file.specs.declared.fault.HoursFileFault.{HoursFileFault};
@@ -18,6 +18,7 @@ ghost use Rattle.gtd_hours_file.specs.Translated.{IsTranslated, IsTranslation, R
 ghost use Rattle.gtd_hours_file.specs.Warnings.{some_opens};
 ghost use Rattle.gtd_hours_file.specs.declared.row.HoursRow.{HoursRow};
 
+use gtd_hours_options::laws::one_way;
 use gtd_migrate::laws::migrated_is_accepted;
 use gtd_text::laws::canonical_text_of_domain;
 
@@ -43,16 +44,17 @@ pub fn text_is_a_record_file()
     canonical_text_of_domain();
 }
 
-/// Where texts are read in one way, the bytes of a file of hours have one answer: all that have one are at fault in the same
-/// way, or have the same rows, whose hours are open at the same seconds. Such rows are translated to restrictions of the same
-/// elements, directions and vehicle types, whose domains contain the same seconds.
+/// The bytes of a file of hours have one answer: all that have one are at fault in the same way, or have the same rows, whose
+/// hours are open at the same seconds. Such rows are translated to restrictions of the same elements, directions and vehicle
+/// types, whose domains contain the same seconds.
 pub fn one_answer()
-    ensures answer { (how : HowRead) → AreReadInOneWay how
-        → (bytes : List ℕ) (one other : Result (List HoursRow) (List HoursFileFault))
+    ensures answer { (how : HowRead) (bytes : List ℕ) (one other : Result (List HoursRow) (List HoursFileFault))
         → IsHoursFile how bytes one → IsHoursFile how bytes other → IsSameAnswer one other }
     ensures restrictions { (ones others : List HoursRow) (found also : List Restriction) → AreSameRows ones others
         → IsTranslation ones found → IsTranslation others also → AreSameRestrictions found also }
-{}
+{
+    one_way();
+}
 
 /// Where each text is read or has a fault, each file of hours has an answer, if memory has room for its texts: its rows, or all
 /// its faults.

@@ -1,19 +1,19 @@
 -- Readings of texts of which only what has been read is known to be tokens: a move, and what a reading comes to.
-use Rattle.std.proofs.Common.{◌≡◌, ℕ, ◌≤◌, ◌<◌, ◌⊎◌, inl, inr, Bool, true, false, List, [], ◌∷◌, ◌++◌, length, Option, Some, None}
+use Rattle.std.proofs.Common.{◌≡◌, ℕ, ◌≤◌, inl, inr, Bool, true, false, List, [], ◌∷◌, ◌++◌, length, Option, Some, None}
 use Rattle.std.proofs.Common.{Result, Ok, Err, refl, sym, ap, subst, ◌∙◌, arith}
 use Rattle.std.specs.Prelude.{IfErr, IfSome}
 use Rattle.std.proofs.lemmas.List.{append-nil}
-use Rattle.gtd_hours_tokens.specs.Lexing.{AreTokens, IsNext, IsTokenFault}
+use Rattle.gtd_hours_tokens.specs.Lexing.{IsNext}
 use Rattle.gtd_hours_tokens.specs.facts.WholeText.{HasRead, all_read, with_token}
 use Rattle.gtd_hours_parts.specs.declared.part.Part.{Part}
-use Rattle.gtd_hours_moves.specs.Terms.{Token, TokenKind, Piece}
+use Rattle.gtd_hours_moves.specs.Terms.{Token, Piece}
 use Rattle.gtd_hours_moves.specs.declared.place.Move.{Move}
 use Rattle.gtd_hours_moves.specs.declared.place.Place.TheVariants as places
 use Rattle.gtd_hours_grammar.specs.declared.fault.HoursFault.{HoursFault}
 use Rattle.gtd_hours_grammar.specs.declared.reading.Reading.{Reading}
 use Rattle.gtd_hours_grammar.specs.Faults.{IsFirstFault, IsHoursText}
 use Rattle.gtd_hours_moves.specs.Runs.{is_after, with_piece}
-use Rattle.gtd_hours_grammar.specs.Steps.{IsEndOrFault, IsMove, IsReading, IsToldAt, advanced, ended, fault_at, kind_of, moved}
+use Rattle.gtd_hours_grammar.specs.Steps.{IsEndOrFault, IsMove, IsReading, IsToldAt, advanced, ended, kind_of, moved}
 use Rattle.gtd_hours_grammar.specs.Steps.{moves_left}
 use Rattle.gtd_hours_grammar.proofs.EndLemmas.{ends_all, ends_fault}
 use Rattle.gtd_hours_grammar.proofs.ReadLemmas.{Stands, advance, fewer, front_read}

@@ -2,7 +2,6 @@
 use Rattle.std.specs.Prelude.{List, ◌≡◌, ◌↔◌, ℕ, ◌+◌, ◌*◌, ◌-◌, ◌≤◌, Bool, true, false, ◌++◌, length, Option, Some, None, Result}
 use Rattle.std.specs.Prelude.{Ok, Err, ◌⊎◌}
 use Rattle.gtd_hours_tokens.specs.Lexing.{AreTokens, IsTokenFault, Reads}
-use Rattle.gtd_hours_tokens.specs.declared.token.BadToken.{BadToken}
 use Rattle.gtd_hours_parts.specs.declared.part.Part.{Part}
 use Rattle.gtd_hours_moves.specs.Terms.{Token, TokenKind, Piece}
 use Rattle.gtd_hours_moves.specs.declared.place.Place.{Place}

@@ -18,11 +18,13 @@ use Rattle.gtd_hours.specs.declared.hours.Months.{Months as MonthRange}
 use Rattle.gtd_hours.specs.declared.hours.Rule.{Rule}
 use Rattle.gtd_hours.specs.declared.hours.Selector.{Selector}
 use Rattle.gtd_hours.specs.declared.hours.Selector.TheVariants.{Years, Months, Dates, Dated, Weeks, Weekdays, Nth, NthBack}
+use Rattle.gtd_hours.specs.declared.hours.Selector.TheVariants.{Yearly}
 use Rattle.gtd_hours.specs.declared.hours.TimeRange.{TimeRange}
 use Rattle.gtd_hours.specs.declared.hours.WeekdayPlace.{WeekdayPlace}
 use Rattle.gtd_hours.specs.declared.hours.Weekdays.{Weekdays as WeekdayRange}
 use Rattle.gtd_hours.specs.declared.hours.Weeks.{Weeks as WeekRange}
 use Rattle.gtd_hours.specs.declared.hours.YearDate.{YearDate}
+use Rattle.gtd_hours.specs.declared.hours.YearlyDays.{YearlyDays}
 use Rattle.gtd_hours.specs.declared.hours.Years.{Years as YearRange}
 
 -- ---- the same selectors
@@ -54,6 +56,10 @@ same_weekdays_range x y = (x.first == y.first) && (x.last == y.last)
 abbrev pub same_place : WeekdayPlace → WeekdayPlace → Bool
 same_place x y = (x.weekday == y.weekday) && (x.number == y.number)
 
+abbrev pub same_yearly : YearlyDays → YearlyDays → Bool
+same_yearly x y =
+    (x.first == y.first) && (x.last == y.last) && (x.month == y.month) && (x.day == y.day) && (x.days == y.days)
+
 -- The same selector. Days that move from year to year are not compared: they are like no other.
 abbrev pub same_selector : Selector → Selector → Bool
 same_selector (Years x) (Years y) = same_years x y
@@ -64,6 +70,7 @@ same_selector (Weeks x) (Weeks y) = same_weeks x y
 same_selector (Weekdays x) (Weekdays y) = same_weekdays_range x y
 same_selector (Nth x) (Nth y) = same_place x y
 same_selector (NthBack x) (NthBack y) = same_place x y
+same_selector (Yearly x) (Yearly y) = same_yearly x y
 same_selector x y = false
 
 -- each of these selectors is one of those

@@ -4,10 +4,11 @@ ghost use Rattle.std.specs.Prelude.{◌≡◌};
 ghost use Rattle.std.specs.List.{list_all, list_any};
 ghost use Rattle.gtd_hours_hidden.specs.Hides.{are_among, has_weekday, is_plain, is_round, same_dated, same_dates, same_months};
 ghost use Rattle.gtd_hours_hidden.specs.Hides.{same_month_day, same_place, same_selector, same_weekdays_range, same_weeks};
-ghost use Rattle.gtd_hours_hidden.specs.Hides.{same_year_date, same_years};
+ghost use Rattle.gtd_hours_hidden.specs.Hides.{same_year_date, same_yearly, same_years};
 
 use gtd_hours::{
-    Dated, Dates, MonthDay, Months, Selector, WeekdayPlace, Weekdays, Weeks, YearDate, Years,
+    Dated, Dates, MonthDay, Months, Selector, WeekdayPlace, Weekdays, Weeks, YearDate, YearlyDays,
+    Years,
 };
 
 fn same_years(one: Years, other: Years) -> bool
@@ -64,6 +65,16 @@ fn same_place(one: WeekdayPlace, other: WeekdayPlace) -> bool
     one.weekday == other.weekday && one.number == other.number
 }
 
+fn same_yearly(one: YearlyDays, other: YearlyDays) -> bool
+    ensures { result ≡ same_yearly one other }
+{
+    one.first == other.first
+        && one.last == other.last
+        && one.month == other.month
+        && one.day == other.day
+        && one.days == other.days
+}
+
 fn same_selector(one: Selector, other: Selector) -> bool
     ensures { result ≡ same_selector one other }
 {
@@ -78,6 +89,7 @@ fn same_selector(one: Selector, other: Selector) -> bool
         Selector::NthBack(place) => is_nth_back(place, other),
         Selector::Moved(_) => false,
         Selector::Moving(_) => false,
+        Selector::Yearly(days) => are_yearly(days, other),
     }
 }
 
@@ -149,6 +161,15 @@ fn is_nth_back(place: WeekdayPlace, other: Selector) -> bool
 {
     match other {
         Selector::NthBack(another) => same_place(place, another),
+        _ => false,
+    }
+}
+
+fn are_yearly(days: YearlyDays, other: Selector) -> bool
+    ensures { result ≡ same_selector (Selector.Yearly days) other }
+{
+    match other {
+        Selector::Yearly(others) => same_yearly(days, others),
         _ => false,
     }
 }

@@ -16,7 +16,7 @@ use Rattle.gtd_hours_items.specs.Items.{AreItems, AreItemsLeft, item_by, more_by
 use Rattle.gtd_hours_items.specs.declared.fronts.Before.{Before}
 use Rattle.gtd_hours_items.specs.declared.items.Item.{Item}
 use Rattle.gtd_hours_holiday_rules.specs.Parts.{parts_of, told_of}
-use Rattle.gtd_hours_holiday_rules.specs.Reading.{HasItems, HasParts, IsHolidayText}
+use Rattle.gtd_hours_holiday_rules.specs.Reading.{HasParts, IsHolidayText}
 use Rattle.gtd_hours_holiday_rules.specs.Rules.{rules_of, said_by}
 use Rattle.gtd_hours_holiday_rules.specs.WholeDays.{whole_days_of}
 use Rattle.gtd_hours_holiday_rules.specs.declared.parts.Part.{Part}

@@ -17,6 +17,8 @@ mod told;
 mod whole_days;
 
 pub use gtd_hours_items::NoHolidayText;
-pub use rules::HolidayRule;
+pub use parts::{Part, parts_of};
+pub use role::Role;
+pub use rules::{HolidayRule, link_behind, rules_of};
 pub use text::{HolidayText, holiday_text};
 pub use told::{HolidayFault, Instead, Told, told_fault};

@@ -3,7 +3,8 @@
 ghost use Rattle.std.specs.Prelude.{◌≡◌};
 ghost use Rattle.gtd_hours_items.specs.Coming.{begins};
 ghost use Rattle.gtd_hours_holiday_rules.specs.Told.{begins_days, begins_easter, behind_first, easter_first, fault_at, fault_by};
-ghost use Rattle.gtd_hours_holiday_rules.specs.Told.{fault_in_range, first_place, has_offset, instead_of, is_dates, is_day, is_foreign};
+ghost use Rattle.gtd_hours_holiday_rules.specs.Told.{fault_in_range, first_place, has_offset, instead_of, is_dates, is_day};
+ghost use Rattle.gtd_hours_holiday_rules.specs.Told.{is_foreign};
 ghost use Rattle.gtd_hours_holiday_rules.specs.Told.{is_misfit, is_sign, kind_among, led_instead, misfit_fault, misfit_kind};
 ghost use Rattle.gtd_hours_holiday_rules.specs.Told.{plus_kind, sign_fault, told_at, told_fault, unfit_fault, unread_instead};
 

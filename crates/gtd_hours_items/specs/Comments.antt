@@ -44,8 +44,8 @@ pub record IsBadByte (text : List ℕ) (place : ℕ) : Type 0 where
 abbrev pub IsBadPlace : List ℕ → ℕ → Type 0
 IsBadPlace text place = IsBadByte text place ⊎ IsBrokenComment text place
 
--- Why a text is not whole tokens: a byte with which no token begins or a comment that is not whole, whichever stands first, or want
--- of memory.
+-- Why a text is not whole tokens: a byte with which no token begins or a comment that is not whole, whichever stands first, or
+-- want of memory.
 abbrev pub IsNoHolidayText : List ℕ → NoHolidayText → Type 0
 IsNoHolidayText text (stop.BadToken place) = IsBadPlace text place
 IsNoHolidayText text stop.NoMemory = Unit {0}

@@ -1,6 +1,6 @@
 -- The items of a text: its tokens. Some are holidays or Easter, with the offsets that belong to them, ranges of days that move or
 -- Easter of a year, comments, `||` or `unknown`.
-use Rattle.std.specs.Prelude.{◌≡◌, ℕ, zero, suc, ◌-◌, ◌&&◌, ◌||◌, ◌==◌, Bool, true, false, List, [], ◌∷◌, Option, Some, None}
+use Rattle.std.specs.Prelude.{◌≡◌, ℕ, zero, suc, ◌-◌, ◌&&◌, ◌||◌, ◌==◌, Bool, false, List, [], ◌∷◌, Option, Some, None}
 use Rattle.std.specs.Prelude.{codes, if◌then◌else◌, is_some}
 use Rattle.gtd_hours_days.specs.declared.listed.EasterDays.TheVariants as easter
 use Rattle.gtd_hours_days.specs.declared.listed.Listed.TheVariants as listed

@@ -1,20 +1,19 @@
--- The days of a range of dates, and of runs of days.
-use Rattle.std.proofs.Common.{◌≡◌, refl, sym, subst, arith, inl, inr, ◌↔◌, List, [], ◌∷◌, ◌++◌, ℤ, pos, ◌+ℤ◌, ◌≤ℤ◌, ◌<ℤ◌}
-use Rattle.std.proofs.lemmas.Int.{by_lt_z}
-use Rattle.gtd_core.specs.Limits.{first_calendar_day}
-use Rattle.gtd_calendar.specs.facts.Signed.{signed_arith}
+-- The days of a range of dates, of runs of days, and of groups of days that come each year.
+use Rattle.std.proofs.Common.{◌≡◌, refl, sym, subst, inl, inr, ◌↔◌, ℕ, List, [], ◌∷◌, ◌++◌, ℤ, pos, ◌+ℤ◌, ◌≤ℤ◌, ◌<ℤ◌}
 use Rattle.gtd_calendar.specs.declared.day.DayFields.{DayFields}
 use Rattle.gtd_hours.specs.Opening.{HoldsOn, SomeHolds}
 use Rattle.gtd_hours.specs.declared.hours.Dated.{Dated as DatedRange}
 use Rattle.gtd_hours.specs.declared.hours.Selector.{Selector}
 use Rattle.gtd_hours.specs.declared.hours.Selector.TheVariants as selector
-use Rattle.gtd_hours_holidays.specs.Days.{IsIn}
-use Rattle.gtd_hours_holidays.specs.Runs.{AreRuns}
-use Rattle.gtd_hours_holidays.specs.declared.days.Days.{Days}
+use Rattle.gtd_hours.specs.Yearly.{IsOfDays}
+use Rattle.gtd_hours.specs.declared.hours.YearlyDays.{YearlyDays}
+use Rattle.gtd_hours_holidays.specs.KnownYears.{IsOfYears}
+use Rattle.gtd_hours_holidays.specs.declared.known_years.KnownYears.{KnownYears}
 use Rattle.gtd_hours_holidays.specs.declared.run.Run.{Run}
-use Rattle.gtd_hours_days.specs.Parts.{IsOfRun, SomeRun}
-use Rattle.gtd_hours_days.proofs.CoverFacts.{in_runs, of_runs}
-use Rattle.gtd_hours_known.specs.HolidayDays.{AreApart, AreRangesOf, IsRange, date_day}
+use Rattle.gtd_hours_days.specs.Groups.{IsOfGroup}
+use Rattle.gtd_hours_days.specs.Parts.{IsOfRun, IsWritten, SomeRun}
+use Rattle.gtd_hours_days.specs.declared.group.Group.{Group}
+use Rattle.gtd_hours_known.specs.HolidayDays.{AreRangesOf, AreWritten, AreYearlyOf, IsRange, IsYearlyOf, date_day}
 
 pub dated_range : (a b first last : ℤ) → a ≡ first → b ≡ last → first ≤ℤ last → last <ℤ (first +ℤ pos 36600)
     → (a ≤ℤ b) × (b <ℤ (a +ℤ pos 36600))
@@ -35,6 +34,7 @@ range_of (selector.Nth x) first last is = absurd is
 range_of (selector.NthBack x) first last is = absurd is
 range_of (selector.Moved x) first last is = absurd is
 range_of (selector.Moving x) first last is = absurd is
+range_of (selector.Yearly x) first last is = absurd is
 
 range_holds : (x : Selector) (run : Run) (n : ℤ) (f : DayFields) → IsRange run.first run.last x
     → HoldsOn x n f ↔ IsOfRun run n
@@ -70,41 +70,78 @@ some_ranges (run ∷ runs) (x ∷ days) n f are =
       (λ h. elim h [ inl a ↦ inl (here.1 a) | inr a ↦ inr (more.1 a) ]),
     )
 
--- Those of a set are apart: the day after each run is not in the set.
-apart_with : (x : Selector) (days : List Selector) (from first last : ℤ) → IsRange first last x → from ≤ℤ first
-    → AreApart (last +ℤ pos 2) days → AreApart from (x ∷ days)
-apart_with x days from first last is low more =
-    let r = range_of x first last is in
-    subst (λ (y : Selector). AreApart from (y ∷ days)) (sym r.1)
-    (subst (λ (d : ℤ). from ≤ℤ d) (sym r.2) low, subst (λ (d : ℤ). AreApart (d +ℤ pos 2) days) (sym r.3) more)
+-- ---- days that come each year
 
-ranges_behind : (set : Days) (last : ℤ) (runs : List Run) (days : List Selector) → AreRuns set (last +ℤ pos 1) runs
-    → (IsIn set (last +ℤ pos 1) → ⊥) → AreRangesOf runs days → AreApart (last +ℤ pos 2) days
-ranges_behind set last [] [] are out is = tt
-ranges_behind set last [] (x ∷ days) are out is = absurd is
-ranges_behind set last (run ∷ runs) [] are out is = absurd is
-ranges_behind set last (run ∷ runs) (x ∷ days) are out is =
-    let low = are.0.first.after in
-    apart_with x days (last +ℤ pos 2) run.first run.last is.0
-    (by_lt_z (last +ℤ pos 1) run.first (λ behind. omega (arith, signed_arith, behind))
-    (λ near.
-    let same : run.first ≡ last +ℤ pos 1 = omega (arith, signed_arith, near, low) in
-    absurd (out (subst (IsIn set) same are.0.first.holds))))
-    (ranges_behind set run.last runs days are.1 are.0.last.ends is.1)
+-- a selector with the days of a group has these days
+pub yearly_of : (years : KnownYears) (group : Group) (x : Selector) → IsYearlyOf years group x
+    → (days : YearlyDays) × (x ≡ selector.Yearly days) × IsYearlyOf years group (selector.Yearly days)
+yearly_of years group (selector.Yearly days) is = (days, refl, is)
+yearly_of years group (selector.Years x) is = absurd is
+yearly_of years group (selector.Months x) is = absurd is
+yearly_of years group (selector.Dates x) is = absurd is
+yearly_of years group (selector.Dated x) is = absurd is
+yearly_of years group (selector.Weeks x) is = absurd is
+yearly_of years group (selector.Weekdays x) is = absurd is
+yearly_of years group (selector.Nth x) is = absurd is
+yearly_of years group (selector.NthBack x) is = absurd is
+yearly_of years group (selector.Moved x) is = absurd is
+yearly_of years group (selector.Moving x) is = absurd is
 
-pub ranges_apart : (set : Days) (from : ℤ) (runs : List Run) (days : List Selector) → AreRuns set from runs
-    → AreRangesOf runs days → AreApart from days
-ranges_apart set from [] [] are is = tt
-ranges_apart set from [] (x ∷ days) are is = absurd is
-ranges_apart set from (run ∷ runs) [] are is = absurd is
-ranges_apart set from (run ∷ runs) (x ∷ days) are is =
-    apart_with x days from run.first run.last is.0 are.0.first.after
-    (ranges_behind set run.last runs days are.1 are.0.last.ends is.1)
+-- the days of a group in some years, by their numbers
+abbrev IsInGroup : ℕ → ℕ → ℕ → ℕ → ℕ → ℤ → Type 0
+IsInGroup first last month day days n = IsOfYears first last n × IsOfDays month day days n
 
--- the runs of a set have its days
-pub days_of_runs : (some listed : Type 0) (days : Days) (runs : List Run) (n : ℤ) → AreRuns days first_calendar_day runs
-    → (some ↔ SomeRun runs n) → (IsIn days n ↔ listed) → some ↔ listed
-days_of_runs some listed days runs n are same is = (
-  (λ h. is.0 (of_runs days first_calendar_day runs n are (same.0 h))),
-  (λ h. let in_set = is.1 h in same.1 (in_runs days first_calendar_day runs n are in_set.0.0 in_set)),
-)
+yearly_holds : (years : KnownYears) (group : Group) (x : Selector) (n : ℤ) (f : DayFields) → IsYearlyOf years group x
+    → HoldsOn x n f ↔ (IsOfYears years.first years.last n × IsOfGroup group n)
+yearly_holds years group x n f is =
+    let y = yearly_of years group x is in
+    let same : IsInGroup y.0.first y.0.last y.0.month y.0.day y.0.days n
+    ≡ IsInGroup years.first years.last group.month group.day group.days n =
+    λ i. IsInGroup (y.2.0 i) (y.2.1 i) (y.2.2 i) (y.2.3 i) (y.2.4 i) n in (
+      (λ h.
+          let own : HoldsOn (selector.Yearly y.0) n f = subst (λ (z : Selector). HoldsOn z n f) y.1 h in
+          let both : IsInGroup y.0.first y.0.last y.0.month y.0.day y.0.days n = ((own.0, own.1), own.2) in
+          subst (λ (T : Type 0). T) same both),
+      (λ h.
+          let both : IsInGroup y.0.first y.0.last y.0.month y.0.day y.0.days n = subst (λ (T : Type 0). T) (sym same) h in
+          subst (λ (z : Selector). HoldsOn z n f) (sym y.1) (both.0.0, both.0.1, both.1)),
+    )
+
+-- one selector more
+pub groups_more : (years : KnownYears) (groups : List Group) (group : Group) (days : List Selector) (x : Selector)
+    → AreYearlyOf years groups days → IsYearlyOf years group x → AreYearlyOf years (groups ++ group ∷ []) (days ++ x ∷ [])
+groups_more years [] group [] x are is = (is, tt)
+groups_more years [] group (y ∷ days) x are is = absurd are
+groups_more years (g ∷ groups) group [] x are is = absurd are
+groups_more years (g ∷ groups) group (y ∷ days) x are is = (are.0, groups_more years groups group days x are.1 is)
+
+-- groups, and then runs
+pub both_written : (years : KnownYears) (groups : List Group) (runs : List Run) (days others : List Selector)
+    → AreYearlyOf years groups days → AreRangesOf runs others → AreWritten years groups runs (days ++ others)
+both_written years [] runs [] others are ranges = ranges
+both_written years [] runs (x ∷ days) others are ranges = absurd are
+both_written years (g ∷ groups) runs [] others are ranges = absurd are
+both_written years (g ∷ groups) runs (x ∷ days) others are ranges =
+    (are.0, both_written years groups runs days others are.1 ranges)
+
+-- they have the days of the groups in the years, and of the runs
+pub some_written : (years : KnownYears) (groups : List Group) (runs : List Run) (days : List Selector) (n : ℤ) (f : DayFields)
+    → AreWritten years groups runs days → SomeHolds days n f ↔ IsWritten years groups runs n
+some_written years [] runs days n f are =
+    let ranges = some_ranges runs days n f are in (
+      (λ h. inr (ranges.0 h)),
+      (λ h. elim h [ inl x ↦ absurd x.1 | inr r ↦ ranges.1 r ]),
+    )
+some_written years (g ∷ groups) runs [] n f are = absurd are
+some_written years (g ∷ groups) runs (x ∷ days) n f are =
+    let here = yearly_holds years g x n f are.0 in
+    let more = some_written years groups runs days n f are.1 in (
+      (λ h. elim h [
+        | inl a ↦ (let both = here.0 a in inl (both.0, inl both.1))
+        | inr a ↦ elim (more.0 a) [ inl b ↦ inl (b.0, inr b.1) | inr b ↦ inr b ]
+      ]),
+      (λ h. elim h [
+        | inl a ↦ elim (a.1) [ inl b ↦ inl (here.1 (a.0, b)) | inr b ↦ inr (more.1 (inl (a.0, b))) ]
+        | inr b ↦ inr (more.1 (inr b))
+      ]),
+    )

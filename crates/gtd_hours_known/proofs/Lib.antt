@@ -9,5 +9,5 @@ pub mod PlainReadings
 pub mod GivenFacts
 pub mod SaidDays
 pub mod SaidRules
-pub mod ApartFacts
+pub mod OneDays
 pub mod EasterFacts

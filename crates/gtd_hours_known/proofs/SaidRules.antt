@@ -19,7 +19,7 @@ use Rattle.gtd_hours_known.specs.Rules.{AreGivenDays, AreHolidayRules, AreSpoken
 use Rattle.gtd_hours_known.specs.Said.{AreOwnRules, ClosedAfter, InSpansOf, IsClosedThen, IsOnDayOf, IsOpenFrom, IsOpenThen}
 use Rattle.gtd_hours_known.specs.Said.{IsOwnRule, IsSaidOpen, OpenAfter}
 use Rattle.gtd_hours_known.specs.declared.known.Known.{Known}
-use Rattle.gtd_hours_known.proofs.ApartFacts.{one_own}
+use Rattle.gtd_hours_known.proofs.OneDays.{one_own}
 use Rattle.gtd_hours_known.proofs.SaidDays.{made_of, match_of_same, same_match, same_spans, spans_of_same}
 
 -- ---- what a rule says, by its spans and days

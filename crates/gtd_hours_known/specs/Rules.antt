@@ -131,7 +131,6 @@ IsHolidayUncovered known (from ∷ more) place day =
 -- a fault of holidays, as it is told at one of these places
 abbrev pub IsStopAt : ListedFault → List ℕ → RulesStop → Type 0
 IsStopAt (listed_fault.Uncovered found) places why = why ≡ stop.Uncovered (get_or places found.place 0) found.day
-IsStopAt (listed_fault.TooMany needed) places why = ⊥
 IsStopAt listed_fault.NoMemory places why = why ≡ stop.NoMemory
 
 -- why the holidays of a rule have no days; why the rule has no rule of hours; and why rules have none

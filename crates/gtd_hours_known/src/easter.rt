@@ -49,7 +49,6 @@ fn days_in(
         Ok(days) => Ok(days),
         Err(why) => match why {
             ListedFault::Uncovered(_) => unreachable!(),
-            ListedFault::TooMany { needed: _ } => unreachable!(),
             ListedFault::NoMemory => Err(RulesStop::NoMemory),
         },
     }

@@ -100,7 +100,6 @@ fn stop_at(why: ListedFault, places: &[usize]) -> RulesStop
             place: place_at(places, found.place),
             day: found.day,
         },
-        ListedFault::TooMany { needed: _ } => unreachable!(),
         ListedFault::NoMemory => RulesStop::NoMemory,
     }
 }

@@ -1,6 +1,6 @@
--- Which tokens begin a range of days that moves, or Easter of a year, by their kinds alone, whatever their numbers are: a place of
--- a weekday in a month or Easter, with its offset and a dash behind it; a day of a month and a dash, with a month and a weekday
--- or Easter behind; or a year and Easter. A year may stand before each end.
+-- Which tokens begin a range of days that moves, or Easter of a year, by their kinds alone, whatever their numbers are: a place
+-- of a weekday in a month or Easter, with its offset and a dash behind it; a day of a month and a dash, with a month and a
+-- weekday or Easter behind; or a year and Easter. A year may stand before each end.
 use Rattle.std.specs.Prelude.{ℕ, ◌&&◌, ◌||◌, not, Bool, List, if◌then◌else◌}
 use Rattle.gtd_hours_tokens.specs.declared.token.Token.{Token}
 use Rattle.gtd_hours_moving.specs.Kinds.{begins, is_bracket, is_closing, is_dash, is_day, is_month, is_number, is_sign}

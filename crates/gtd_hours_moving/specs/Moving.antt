@@ -19,8 +19,8 @@ use Rattle.gtd_hours_moving.specs.declared.front.MovingFront.{MovingFront}
 use Rattle.gtd_hours_moving.specs.declared.front.MovingFront.TheVariants as front
 use Rattle.gtd_hours_moving.specs.declared.read.ReadRange.{ReadRange}
 
--- A range that was read is some days, and if these are of Easter, its first one stands there; or it has a fault at its last token,
--- exactly if it is none.
+-- A range that was read is some days, and if these are of Easter, its first one stands there; or it has a fault at its last
+-- token, exactly if it is none.
 abbrev pub IsFrontOf : ReadRange → MovingFront → Type 0
 IsFrontOf read (front.Range x tokens to) =
     IsDaysOf read.range (days.Always x) × (tokens ≡ range_tokens read) × (to ≡ read.last.to)

@@ -1,5 +1,5 @@
-//! Ranges of days that move from year to year, such as `Mar Su[-1]-Oct Su[1]` and `easter-Oct 31`, and Easter of a year, where the
-//! tokens of a text of opening hours begin with one.
+//! Ranges of days that move from year to year, such as `Mar Su[-1]-Oct Su[1]` and `easter-Oct 31`, and Easter of a year, where
+//! the tokens of a text of opening hours begin with one.
 //!
 //! Tokens begin a range by their kinds alone, whatever their numbers are. A range that is begun is read from left to right, up
 //! to its end or its first fault. Which days the range then is, `gtd_hours_ranges` says.

@@ -1,6 +1,5 @@
 -- Rules that are made of the same rule of a text are alike, whichever lists of the days of its holidays are taken.
-use Rattle.std.proofs.Common.{◌≡◌, ◌∙◌, sym, ap, refl, subst, arith, ◌↔◌, ℕ, ◌+◌, max, ℤ, Bool, true, false, List, [], ◌∷◌, ◌++◌}
-use Rattle.std.specs.Prelude.{if◌then◌else◌}
+use Rattle.std.proofs.Common.{◌≡◌, ◌∙◌, sym, ap, refl, subst, ◌↔◌, ℕ, ◌+◌, max, ℤ, Bool, List, [], ◌∷◌}
 use Rattle.gtd_hours.specs.Cost.{days_cost, kinds_cost, selectors_cost}
 use Rattle.gtd_hours.specs.Opening.{InSpans, IsOnMatch, IsTimeOn}
 use Rattle.gtd_hours.specs.Writable.{selectors}
@@ -11,10 +10,10 @@ use Rattle.gtd_hours.specs.declared.hours.Selector.{Selector}
 use Rattle.gtd_hours.specs.declared.hours.TimeRange.{TimeRange}
 use Rattle.gtd_hours_days.specs.declared.listed.Listed.{Listed}
 use Rattle.gtd_hours_holiday_rules.specs.declared.rules.HolidayRule.{HolidayRule}
-use Rattle.gtd_hours_known.specs.Joining.{names_weekdays, with_days}
+use Rattle.gtd_hours_known.specs.Joining.{with_days}
 use Rattle.gtd_hours_known.specs.Rules.{AreGivenDays, HasHolidays, WithAny}
 use Rattle.gtd_hours_known.specs.declared.known.Known.{Known}
-use Rattle.gtd_hours_known.proofs.ApartFacts.{one_list}
+use Rattle.gtd_hours_known.proofs.OneDays.{one_list}
 use Rattle.gtd_hours_known.proofs.MatchFacts.{same_matches}
 use Rattle.gtd_hours_known.proofs.SaidDays.{made_of, match_of_same, same_match, same_spans, spans_of_same}
 use Rattle.gtd_hours_text.specs.facts.SameRules.{SameRule, SameRules}
@@ -30,31 +29,16 @@ of_lists : (kinds : List Kind) → kinds_cost kinds ≡ lists_cost (selectors ki
 of_lists [] = refl
 of_lists (kind ∷ kinds) = ap (λ (n : ℕ). max 1 (selectors_cost kind.selectors.items) + n) (of_lists kinds)
 
-cost_append : (xs ys : List Selector) → selectors_cost (xs ++ ys) ≡ selectors_cost xs + selectors_cost ys
-cost_append [] ys = omega arith
-cost_append (x ∷ xs) ys = let rest = cost_append xs ys in omega (arith, rest)
-
-last_cost : (w led : Bool) (ds es kind : List Selector) → selectors_cost ds ≡ selectors_cost es
-    → lists_cost (if w then (if led then ds ∷ kind ∷ [] else (kind ++ ds) ∷ []) else kind ∷ ds ∷ [])
-    ≡ lists_cost (if w then (if led then es ∷ kind ∷ [] else (kind ++ es) ∷ []) else kind ∷ es ∷ [])
-last_cost true true ds es kind e = ap (λ (n : ℕ). max 1 n + lists_cost (kind ∷ [])) e
-last_cost true false ds es kind e =
-    ap (λ (n : ℕ). max 1 n + 0) (cost_append kind ds ∙ ap (λ (n : ℕ). selectors_cost kind + n) e ∙ sym (cost_append kind es))
-last_cost false led ds es kind e = ap (λ (n : ℕ). max 1 (selectors_cost kind) + (max 1 n + 0)) e
-
-with_cost : (led : Bool) (ds es : List Selector) (kinds : List (List Selector)) → selectors_cost ds ≡ selectors_cost es
+with_cost : (led : Bool) (ds es : List Selector) (kinds : List (List Selector)) → ds ≡ es
     → lists_cost (with_days led ds kinds) ≡ lists_cost (with_days led es kinds)
-with_cost led ds es [] e = ap (λ (n : ℕ). max 1 n + 0) e
-with_cost led ds es (kind ∷ []) e = last_cost (names_weekdays kind) led ds es kind e
-with_cost led ds es (kind ∷ more ∷ kinds) e =
-    ap (λ (n : ℕ). max 1 (selectors_cost kind) + n) (with_cost led ds es (more ∷ kinds) e)
+with_cost led ds es kinds e = ap (λ (l : List Selector). lists_cost (with_days led l kinds)) e
 
 kinds_by : (one other : List Kind) → lists_cost (selectors one) ≡ lists_cost (selectors other)
     → days_cost one ≡ days_cost other
 kinds_by one other e = ap (max 1) (of_lists one ∙ e ∙ sym (of_lists other))
 
 any_cost : (listed : List Listed) (led : Bool) (by : Link) (ds es : List Selector) (a b m n : Rule)
-    → selectors_cost ds ≡ selectors_cost es → selectors a.kinds.items ≡ selectors b.kinds.items
+    → ds ≡ es → selectors a.kinds.items ≡ selectors b.kinds.items
     → WithAny listed led by ds a m → WithAny listed led by es b n → days_cost m.kinds.items ≡ days_cost n.kinds.items
 any_cost [] led by ds es a b m n e same p q =
     kinds_by m.kinds.items n.kinds.items
@@ -82,7 +66,7 @@ made_alike known x ds es a b m n given also same p q =
       match = λ s. both_ways _ _ _ _ (same_match known x a m s one) (match_of_same known x a b s same)
           (same_match known x b n s other);
       cost = any_cost x.holidays.items x.is_led x.link ds es a b m n
-          (ap selectors_cost (one_list known x.holidays.items ds es given also)) same.kinds p q;
+          (one_list known x.holidays.items ds es given also) same.kinds p q;
       times = ap (λ (t : _). t.items) one.times ∙ same.times ∙ sym (ap (λ (t : _). t.items) other.times);
       modifier = one.modifier ∙ same.modifier ∙ sym other.modifier;
       link = one.link ∙ sym other.link;

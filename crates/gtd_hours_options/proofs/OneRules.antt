@@ -25,7 +25,7 @@ use Rattle.gtd_hours_known.specs.Rules.{IsHolidayRule, IsHolidayUncovered, IsUnc
 use Rattle.gtd_hours_known.specs.declared.known.Known.{Known}
 use Rattle.gtd_hours_dated.specs.Dated.{IsDatedHours}
 use Rattle.gtd_hours_text.specs.facts.SameRules.{SameRules}
-use Rattle.gtd_hours_known.proofs.ApartFacts.{one_own}
+use Rattle.gtd_hours_known.proofs.OneDays.{one_own}
 use Rattle.gtd_hours_options.proofs.Alike.{AreAllAlike, alike_append, alike_by}
 use Rattle.gtd_hours_options.proofs.AlikeDays.{made_alike}
 

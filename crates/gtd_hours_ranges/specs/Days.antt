@@ -6,10 +6,8 @@ use Rattle.gtd_hours.specs.Moving.{day_from}
 use Rattle.gtd_hours.specs.Opening.{date_key}
 use Rattle.gtd_hours.specs.declared.hours.Dated.{Dated}
 use Rattle.gtd_hours.specs.declared.hours.MonthDay.{MonthDay}
-use Rattle.gtd_hours.specs.declared.hours.Selector.{Selector}
 use Rattle.gtd_hours.specs.declared.hours.Selector.TheVariants as selector
 use Rattle.gtd_hours.specs.declared.hours.YearDate.{YearDate}
-use Rattle.gtd_hours.specs.declared.places.End.{End}
 use Rattle.gtd_hours.specs.declared.places.End.TheVariants as end
 use Rattle.gtd_hours.specs.declared.places.MonthPlace.{MonthPlace}
 use Rattle.gtd_hours_days.specs.EasterRanges.{IsDayIn}
@@ -83,8 +81,8 @@ IsLastDate (Some last_year) x year first date = IsDateIn x last_year date
 abbrev pub AreDates : ℕ → Option ℕ → YearlyDay → YearlyDay → Dated → Type 0
 AreDates year last_year first last x = IsDateIn first year x.first × IsLastDate last_year last year x.first x.last
 
--- The days from the first end to the last one: of each year, or of the years that are written. Where Easter is an end and no years
--- are written, they are listed.
+-- The days from the first end to the last one: of each year, or of the years that are written. Where Easter is an end and no
+-- years are written, they are listed.
 abbrev pub AreDays : Option ℕ → Option ℕ → YearlyDay → YearlyDay → RangeDays → Type 0
 AreDays None None (yearly.Calendar first) (yearly.Calendar last) (days.Always (selector.Moving x)) =
     (x.first ≡ first) × (x.last ≡ last)

@@ -42,6 +42,7 @@ by_year p d year o is each (selector.Nth x) h = absurd (none p.year year is h.0.
 by_year p d year o is each (selector.NthBack x) h = absurd (none p.year year is h.0.0)
 by_year p d year o is each (selector.Moved x) h = absurd h
 by_year p d year o is each (selector.Moving x) h = absurd h
+by_year p d year o is each (selector.Yearly x) h = absurd h
 
 pub by_week : (p : StartParts) (d : DurationParts) (week : ℕ) (o : Option Selector) → p.year ≡ None → p.week ≡ Some week
     → ((last : ℕ) → IsWeeks week last 1 → week + d.weeks ≡ last + 1 → IsSomeAnd o (AreWeeks week last 1))
@@ -59,6 +60,7 @@ by_week p d week o no_year is each (selector.Nth x) h = absurd (none p.week week
 by_week p d week o no_year is each (selector.NthBack x) h = absurd (none p.week week is h.0.2)
 by_week p d week o no_year is each (selector.Moved x) h = absurd h
 by_week p d week o no_year is each (selector.Moving x) h = absurd h
+by_week p d week o no_year is each (selector.Yearly x) h = absurd h
 
 pub by_month : (p : StartParts) (d : DurationParts) (month day : ℕ) (o : Option Selector) → p.year ≡ None → p.week ≡ None
     → p.month ≡ Some month → p.day ≡ Some day
@@ -79,6 +81,7 @@ by_month p d month day o no_year no_week is on each dates (selector.Nth x) h = a
 by_month p d month day o no_year no_week is on each dates (selector.NthBack x) h = absurd (none p.month month is h.0.1)
 by_month p d month day o no_year no_week is on each dates (selector.Moved x) h = absurd h
 by_month p d month day o no_year no_week is on each dates (selector.Moving x) h = absurd h
+by_month p d month day o no_year no_week is on each dates (selector.Yearly x) h = absurd h
 
 pub by_weekday : (p : StartParts) (d : DurationParts) (o : Option Selector) → p.year ≡ None → p.week ≡ None → p.month ≡ None
     → ((x : WeekdayPlace) → p.nth ≡ Some (x.number, x.weekday) → IsSome o)
@@ -95,6 +98,7 @@ by_weekday p d o no_year no_week no_month nth back days (selector.Nth x) h = nth
 by_weekday p d o no_year no_week no_month nth back days (selector.NthBack x) h = back x h.1 h.2
 by_weekday p d o no_year no_week no_month nth back days (selector.Moved x) h = absurd h
 by_weekday p d o no_year no_week no_month nth back days (selector.Moving x) h = absurd h
+by_weekday p d o no_year no_week no_month nth back days (selector.Yearly x) h = absurd h
 
 -- ---- the days of a stretch
 

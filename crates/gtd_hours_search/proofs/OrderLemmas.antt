@@ -82,6 +82,7 @@ four_places (selector.Nth x) = omega arith
 four_places (selector.NthBack x) = omega arith
 four_places (selector.Moved x) = four_or_none (nat_lt 0 x.days) 4 (omega arith)
 four_places (selector.Moving x) = omega arith
+four_places (selector.Yearly x) = omega arith
 
 four_kinds : (xs : List Selector) → kind_place xs ≤ 4
 four_kinds [] = omega arith

@@ -98,6 +98,7 @@ IsLeafOf (selector.Nth x) p d = NamesNoDate p × (p.nth ≡ Some (x.number, x.we
 IsLeafOf (selector.NthBack x) p d = NamesNoDate p × (p.nth ≡ None) × (p.nth_back ≡ Some (x.number, x.weekday))
 IsLeafOf (selector.Moved x) p d = ⊥
 IsLeafOf (selector.Moving x) p d = ⊥
+IsLeafOf (selector.Yearly x) p d = ⊥
 
 abbrev pub IsDayLeaf : Tree → Type 0
 IsDayLeaf (Single p d) = (x : Selector) × IsLeafOf x p d

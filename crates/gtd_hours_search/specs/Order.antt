@@ -16,6 +16,7 @@ place_of (selector.Nth x) = 4
 place_of (selector.NthBack x) = 4
 place_of (selector.Moved x) = if nat_lt 0 x.days then 4 else 0
 place_of (selector.Moving x) = 0
+place_of (selector.Yearly x) = 0
 
 abbrev pub have_place : ℕ → List Selector → Bool
 have_place place [] = true

@@ -20,6 +20,7 @@ fn place_of(selector: Selector) -> u8
         Selector::NthBack(_) => 4,
         Selector::Moved(place) => { if 0 < place.days { 4 } else { 0 } }
         Selector::Moving(_) => 0,
+        Selector::Yearly(_) => 0,
     }
 }
 

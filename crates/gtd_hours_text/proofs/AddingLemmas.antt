@@ -311,6 +311,7 @@ names_of (selector.Months x) y = names_month_days y
 names_of (selector.Dates x) y = names_month_days y
 names_of (selector.Dated x) y = names_month_days y
 names_of (selector.Moving x) y = names_month_days y
+names_of (selector.Yearly x) y = names_month_days y
 names_of (selector.Weeks x) y = names_weeks y
 names_of x y = names_weekdays y
 

@@ -64,6 +64,7 @@ fn with_selector(draft: Draft, selector: Selector) -> Result<Draft, AllocError>
         Selector::NthBack(_) => with_weekdays(draft, selector),
         Selector::Moved(_) => with_weekdays(draft, selector),
         Selector::Moving(_) => with_month_days(draft, selector),
+        Selector::Yearly(_) => with_month_days(draft, selector),
     }
 }
 

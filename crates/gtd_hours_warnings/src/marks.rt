@@ -194,8 +194,9 @@ fn add_years_if(
 
 /// The warnings of a text from which these hours are read, in the order of their places: where it is written loosely; its
 /// comments on open rules without a word that says so, each with that word; its fallback rules that are unknown; the rules that
-/// say days alone, and behind which a comma begins another rule; the rules that hide hours of an earlier one, each with the hours that stay if a comma stands before it; and at its first holiday the years in
-/// which holidays are known, if they are given. `AllocError` is answered only if memory was refused.
+/// say days alone, and behind which a comma begins another rule; the rules that hide hours of an earlier one, each with the
+/// hours that stay if a comma stands before it; and at its first holiday the years in which holidays are known, if they are
+/// given. `AllocError` is answered only if memory was refused.
 pub fn warnings_with(
     alloc: Global,
     text: &[u8],

@@ -1,13 +1,14 @@
 //! Putting the entry of an element in a direction, if it is asked about.
 
-ghost use Rattle.std.specs.Prelude.{◌≡◌, ◌↔◌, ◌+◌, ◌<◌, ◌≤◌, ◌++◌, ◌^◌, length, IsTrue, OnOk};
+ghost use Rattle.std.specs.Prelude.{◌≡◌, ◌↔◌, ◌+◌, ◌<◌, ◌≤◌, ◌++◌, ◌^◌, length, IfOk, IsTrue, OnOk};
 ghost use Rattle.gtd_core.specs.Limits.{most_rows};
 ghost use Rattle.gtd_core.specs.Seconds.{IsHorizonSecond};
 ghost use Rattle.gtd_report.specs.Putting.{PutsText, failures_after_stop, most_direction_bytes};
 ghost use Rattle.gtd_now.specs.Now as spec;
 ghost use Rattle.gtd_now.specs.Now.{AreEntries, IsEntry, IsShown, entry_in, told};
 ghost use Rattle.gtd_now.specs.Query.{query_of};
-ghost use Rattle.gtd_states.specs.States.{state_of};
+ghost use Rattle.gtd_states.specs.Known.{AreRight};
+ghost use Rattle.gtd_states.specs.States.{IsState, state_of};
 
 use crate::asked::{Asked, Form};
 use crate::entry::Entry;
@@ -19,18 +20,20 @@ use crate::table::push_table_row;
 use gtd_devices::Output;
 use gtd_records::Records;
 use gtd_report::{DirectedElement, Printer, Stop, put_line};
-use gtd_states::state_at;
+use gtd_states::{ElementState, KnownChange, known_of, state_at, state_by};
 use std::alloc::{AllocError, Global};
 
 // No memory holds an entry of so many bytes: the bound keeps the count of all bytes within its type.
 const MOST_ENTRY_BYTES: usize = 1_009_829_376_000;
 
-/// What is shown of a file: what is asked about, and the lines that are told of its rows, which are none if the rows are not
-/// told.
+/// What is shown of a file: what is asked about, the lines that are told of its rows, which are none if the rows are not told,
+/// and when some of its elements change next.
 #[derive(Clone, Copy)]
 pub(crate) struct View<'a> {
     pub(crate) asked: Asked<'a>,
     pub(crate) lines: &'a [u64],
+    pub(crate) found: &'a Records,
+    pub(crate) known: &'a [KnownChange],
 }
 
 // Whether an element is one of those that are asked about. If none is named, all are.
@@ -43,8 +46,8 @@ fn is_wanted(wanted: &[u64], element: u64) -> bool
     }
 }
 
-// Whether the entry of an element in a direction is put.
-fn is_shown(found: &Records, at: DirectedElement, asked: &Asked<'_>) -> bool
+/// Whether the entry of an element in a direction is put.
+pub(crate) fn is_shown(found: &Records, at: DirectedElement, asked: &Asked<'_>) -> bool
     requires { IsHorizonSecond asked.now.second.0 }
     ensures { IsTrue result ↔ IsShown found.now (query_of asked.now) at.element at.direction }
 {
@@ -110,28 +113,47 @@ fn check_length(entry: &[u8]) -> Result<(), AllocError>
     Ok(())
 }
 
+// The state of an element in a direction.
+fn state_in(alloc: Global, at: DirectedElement, view: &View<'_>) -> Result<ElementState, AllocError>
+    requires in_range { IsHorizonSecond view.now.asked.second.0 }
+    requires right { AreRight view.now.found.now view.now.asked.vehicle view.now.asked.second.0 view.now.known.now }
+    ensures state { IfOk result (λ state. IsState view.now.found.now at.element at.direction view.now.asked.vehicle
+        view.now.asked.second.0 (state_of state)) }
+{
+    match known_of(view.known, at) {
+        Some(known) => state_by(
+            alloc,
+            view.found,
+            known,
+            view.asked.vehicle,
+            view.asked.second,
+        ),
+        None => state_at(alloc, view.found, at, view.asked.vehicle, view.asked.second),
+    }
+}
+
 // Writes the entry of an element in a direction, in place of what the buffer held.
 fn write_entry(
     alloc: Global,
     line: &mut Vec<u8>,
-    found: &Records,
     at: DirectedElement,
     view: &View<'_>,
 ) -> Result<(), AllocError>
     requires in_range { IsHorizonSecond view.now.asked.second.0 }
-    ensures entry { OnOk result (IsEntry view.now.lines.now found.now (query_of view.now.asked)
+    requires right { AreRight view.now.found.now view.now.asked.vehicle view.now.asked.second.0 view.now.known.now }
+    ensures entry { OnOk result (IsEntry view.now.lines.now view.now.found.now (query_of view.now.asked)
         at.element at.direction line.new.items) }
     ensures short { OnOk result (length line.new.items ≤ most_direction_bytes) }
 {
     let vehicle = view.asked.vehicle;
-    let state = state_at(alloc, found, at, vehicle, view.asked.second)?;
+    let state = state_in(alloc, at, view)?;
     let entry = Entry {
         at,
         vehicle,
         state: &state,
     };
     let rows = FileRows {
-        records: found.rows(),
+        records: view.found.rows(),
         lines: view.lines,
     };
     line.clear();
@@ -143,25 +165,25 @@ fn write_entry(
 pub(crate) fn put_state<O: Output>(
     output: &mut O,
     printer: &mut Printer,
-    found: &Records,
     at: DirectedElement,
     view: &View<'_>,
 ) -> Result<(), Stop>
     requires countable { O.failure_count output.old < u64.MAX }
     requires in_range { IsHorizonSecond view.now.asked.second.0 }
+    requires right { AreRight view.now.found.now view.now.asked.vehicle view.now.asked.second.0 view.now.known.now }
     requires written { printer.old.progress.written + most_direction_bytes < 2 ^ 64 }
     requires lines { printer.old.progress.lines + 1 < 2 ^ 64 }
-    ensures puts { PutsText (AreEntries view.now.lines.now found.now (query_of view.now.asked) at.element at.direction)
+    ensures puts { PutsText (AreEntries view.now.lines.now view.now.found.now (query_of view.now.asked) at.element at.direction)
         result (O.taken output.old) (O.taken output.new) printer.old.progress printer.new.progress }
     ensures near { OnOk result ((printer.new.progress.written ≤ printer.old.progress.written + most_direction_bytes)
         × (printer.new.progress.lines ≤ printer.old.progress.lines + 1)) }
     ensures failures { O.failure_count output.new
         ≡ failures_after_stop result (O.failure_count output.old) }
 {
-    if !is_shown(found, at, &view.asked) {
+    if !is_shown(view.found, at, &view.asked) {
         return Ok(());
     }
-    write_entry(printer.alloc, &mut printer.line, found, at, view)?;
+    write_entry(printer.alloc, &mut printer.line, at, view)?;
     put_line(output, &mut printer.progress, printer.line.as_slice())?;
     Ok(())
 }

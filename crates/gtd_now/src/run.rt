@@ -1,6 +1,7 @@
 //! The state of the road elements of the record file that an input brings, put to an output.
 
 ghost use Rattle.std.specs.Prelude.{◌≡◌, ◌<◌, ◌≤◌, ◌↔◌, ℕ, ⊤, Some, IfOk, IsErrOf, IsTrue, OnOk, length};
+ghost use Rattle.std.proofs.Props.{props};
 ghost use Rattle.gtd_core.specs.Seconds.{IsHorizonSecond};
 ghost use Rattle.gtd_report.specs.Run.{AcceptedFilesArePut, HasRun, RefusedFilesPutNothing, failures_after_read};
 ghost use Rattle.gtd_report.specs.Run.{failures_after_write, IsVehicleType};
@@ -8,47 +9,54 @@ ghost use Rattle.gtd_now.specs.Now as spec;
 ghost use Rattle.gtd_now.specs.Now.{AreEntries, AreToldLines, IsNow, IsNowOf};
 ghost use Rattle.gtd_now.specs.Query.{query_of};
 ghost use Rattle.gtd_now.specs.Run.{TellsVehicle, entries_of};
+ghost use Rattle.gtd_states.specs.Known.{AreRight};
 
 use crate::asked::{Asked, Form};
-use crate::now::{View, put_state};
+use crate::now::{View, is_shown, put_state};
 use crate::shown::Shown;
 use gtd_core::limits::MOST_FILE_BYTES;
 use gtd_devices::{Input, Output, read_whole};
 use gtd_lines::{lines_of, records_of};
-use gtd_records::{RecordFault, Records};
+use gtd_records::{Direction, RecordFault, Records};
 use gtd_report::{
     DirectedElement, DirectionLines, ElementLines, Printer, RunFault, Stop, put_both,
     put_by_element,
 };
+use gtd_states::{KnownChange, changes_of};
 use gtd_warnings::is_some_row_for;
 use std::alloc::{AllocError, Global};
+
+/// Of fewer elements in a direction each change is looked for on its own.
+const FEW: usize = 16;
 
 /// Memory was refused before anything was put.
 const NO_MEMORY: RunFault = RunFault::NoMemory { written: 0 };
 
-/// The state of the elements that are asked about, in each direction. The second is on a day that a horizon may have.
+/// The state of the elements that are asked about, in each direction. The second is on a day that a horizon may have, and what is
+/// known of changes is right.
 #[derive(Clone, Copy)]
 struct State<'a> {
     view: View<'a>,
     ghost in_range: { IsHorizonSecond view.asked.second.0 },
+    ghost right: { AreRight view.found.now view.asked.vehicle view.asked.second.0 view.known.now } by { Prim.hlevel props },
 }
 
 impl DirectionLines for State<'_> {
-    ghost are_lines = { λ state found. AreEntries state.view.lines.now found (query_of state.view.asked) };
+    ghost are_lines = { λ state _. AreEntries state.view.lines.now state.view.found.now (query_of state.view.asked) };
 
     fn put_direction<O: Output>(
         &self,
         output: &mut O,
         printer: &mut Printer,
-        found: &Records,
+        _found: &Records,
         at: DirectedElement,
     ) -> Result<(), Stop> {
-        put_state(output, printer, found, at, &self.view)
+        put_state(output, printer, at, &self.view)
     }
 }
 
 impl ElementLines for State<'_> {
-    ghost are_lines = { λ state found. AreEntries state.view.lines.now found (query_of state.view.asked) };
+    ghost are_lines = { λ state _. AreEntries state.view.lines.now state.view.found.now (query_of state.view.asked) };
 
     fn put_element<O: Output>(
         &self,
@@ -105,6 +113,61 @@ fn answer_with(answer: Result<u64, RunFault>, is_for_some: bool) -> Result<Shown
     }
 }
 
+// Appends an element in a direction, if its entry is put.
+fn push_shown(
+    shown: &mut Vec<DirectedElement>,
+    found: &Records,
+    at: DirectedElement,
+    asked: &Asked<'_>,
+) -> Result<(), AllocError>
+    requires in_range { IsHorizonSecond asked.now.second.0 }
+{
+    if is_shown(found, at, asked) {
+        shown.push(at)?;
+    }
+    Ok(())
+}
+
+// The elements whose entries are put, in ascending order and in each direction.
+fn shown_of(
+    alloc: Global,
+    found: &Records,
+    asked: &Asked<'_>,
+) -> Result<Vec<DirectedElement>, AllocError>
+    requires in_range { IsHorizonSecond asked.now.second.0 }
+{
+    let mut shown = Vec::new(alloc);
+    for element in found.elements() {
+        let positive = DirectedElement {
+            element: *element,
+            direction: Direction::Positive,
+        };
+        push_shown(&mut shown, found, positive, asked)?;
+        let negative = DirectedElement {
+            element: *element,
+            direction: Direction::Negative,
+        };
+        push_shown(&mut shown, found, negative, asked)?;
+    }
+    Ok(shown)
+}
+
+// When elements change next whose entries are put; of few, nothing is known.
+fn known_changes(
+    alloc: Global,
+    found: &Records,
+    asked: &Asked<'_>,
+) -> Result<Vec<KnownChange>, AllocError>
+    requires in_range { IsHorizonSecond asked.now.second.0 }
+    ensures right { IfOk result (λ known. AreRight found.now asked.now.vehicle asked.now.second.0 known.items) }
+{
+    let shown = shown_of(alloc, found, asked)?;
+    if shown.len() < FEW {
+        return Ok(Vec::new(alloc));
+    }
+    changes_of(alloc, found, shown.as_slice(), asked.vehicle, asked.second)
+}
+
 // Puts the state of the record file with these bytes.
 fn put_now<O: Output>(
     alloc: Global,
@@ -136,10 +199,16 @@ fn put_now<O: Output>(
         Ok(lines) => lines,
         Err(_) => return Err(NO_MEMORY),
     };
+    let known = match known_changes(alloc, &found, asked) {
+        Ok(known) => known,
+        Err(_) => return Err(NO_MEMORY),
+    };
     let state = State {
         view: View {
             asked: *asked,
             lines: lines.as_slice(),
+            found: &found,
+            known: known.as_slice(),
         },
     };
     let is_for_some = is_some_row_for(&found, asked.vehicle);

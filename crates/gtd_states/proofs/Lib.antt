@@ -1,0 +1,2 @@
+-- Lists that grow.
+mod ListFacts

@@ -1,3 +1,4 @@
+pub mod Known
 pub mod Lines
 pub mod States
 pub mod facts
@@ -6,3 +7,4 @@ pub use Rattle.gtd_core.specs.Limits
 pub use Rattle.gtd_records.specs.Closing
 pub use Rattle.gtd_records.specs.ClosingRows
 pub use Rattle.gtd_spans.specs.Change
+pub use Rattle.gtd_alike.specs.Alike

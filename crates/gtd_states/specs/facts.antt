@@ -1,4 +1,5 @@
 pub mod DayFacts
+pub mod KnownFacts
 pub mod OneState
 pub mod RowFacts
 pub mod SomeState

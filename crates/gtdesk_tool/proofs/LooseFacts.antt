@@ -4,12 +4,13 @@ use Rattle.std.specs.Prelude.{Result, Ok, Err}
 use Rattle.std.specs.Io.KnownBytes.{Appends, Keeps}
 use Rattle.gtd_faults.specs.Run.{TookSome}
 use Rattle.gtd_hours.specs.declared.hours.Hours.{Hours}
-use Rattle.gtd_hours_loose.specs.declared.manner.Manner.{Manner}
-use Rattle.gtd_hours_loose.specs.declared.reader.LooseFault.TheVariants as loose
-use Rattle.gtd_hours_loose.specs.declared.reader.LooseReadFault.{LooseReadFault}
-use Rattle.gtd_hours_loose.specs.declared.reader.LooseReadFault.TheVariants as reading
+use Rattle.gtd_hours_loose_tokens.specs.declared.token.DayNames.{DayNames}
+use Rattle.gtd_hours_options.specs.declared.fault.OptionsReadFault.{OptionsReadFault}
+use Rattle.gtd_hours_options.specs.declared.fault.OptionsReadFault.TheVariants as reading
 use Rattle.gtdesk_plans.specs.Arguments.{Text}
-use Rattle.gtdesk_tool.specs.LooseHours.{IsUnread, IsUntranslated, PutLines, RanLines, unread}
+use Rattle.gtdesk_tool.specs.LooseHours.{IsUntranslated, PutLines, RanLines}
+use Rattle.gtdesk_tool.specs.MendedHours.{IsUnmended}
+use Rattle.gtdesk_tool.specs.TextHours.{unread}
 use Rattle.gtdesk_tool.specs.Running.{PutText}
 use Rattle.gtdesk_tool.specs.Telling.{IsUntold, Telling, ToldIfSome, telling}
 use Rattle.gtdesk_tool.specs.declared.ending.Ending.{Ending}
@@ -19,13 +20,12 @@ use Rattle.gtdesk_tool.proofs.RunningFacts.{TellsNone}
 
 -- ---- a refusal of a text tells no failure of a device
 
-tells_unread : (n : ℕ) (fault : LooseReadFault) → TellsNone n (unread fault)
-tells_unread n (reading.Fault (loose.Hours why)) = (refl, refl)
-tells_unread n (reading.Fault (loose.Ambiguous place)) = (refl, refl)
+tells_unread : (n : ℕ) (fault : OptionsReadFault) → TellsNone n (unread fault)
+tells_unread n (reading.Fault why) = (refl, refl)
 tells_unread n reading.NoMemory = (refl, refl)
 
-pub of_unread : (how : Manner) (text : Text) (n : ℕ) (r : RunRefusal) → IsUnread how text r → TellsNone n r
-of_unread how text n r is = subst (λ (x : RunRefusal). TellsNone n x) (sym is.2) (tells_unread n is.0)
+pub of_unmended : (names : DayNames) (text : Text) (n : ℕ) (r : RunRefusal) → IsUnmended names text r → TellsNone n r
+of_unmended names text n r is = subst (λ (x : RunRefusal). TellsNone n x) (sym is.2) (tells_unread n is.0)
 
 of_untranslated : (hours : Hours) (n : ℕ) (r : RunRefusal) → IsUntranslated hours r → TellsNone n r
 of_untranslated hours n r (inl is) = subst (λ (x : RunRefusal). TellsNone n x) (sym is) (refl, refl)

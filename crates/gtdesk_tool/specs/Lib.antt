@@ -8,6 +8,7 @@ pub mod Hours
 pub mod Lines
 pub mod LooseHours
 pub mod Mended
+pub mod MendedHours
 pub mod Noted
 pub mod Refusals
 pub mod Running
@@ -31,6 +32,7 @@ pub use Rattle.gtd_difference.specs.Difference
 pub use Rattle.gtd_hours_file.specs.HoursFile
 pub use Rattle.gtd_hours_file.specs.Warnings
 pub use Rattle.gtd_hours_loose.specs.Reading as LooseReading
+pub use Rattle.gtd_hours_mended.specs.Mending
 pub use Rattle.gtd_hours_search.specs.Membership
 pub use Rattle.gtd_hours.specs.Opening
 pub use Rattle.gtd_hours.specs.Written

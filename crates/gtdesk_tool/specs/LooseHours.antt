@@ -8,21 +8,10 @@ use Rattle.gtd_core.specs.declared.domain.Domain.{Domain}
 use Rattle.gtd_faults.specs.Run.{TookSome}
 use Rattle.gtd_hours.specs.Cost.{hours_cost}
 use Rattle.gtd_hours.specs.Opening.{IsOpen}
-use Rattle.gtd_hours.specs.Written.{hours_text}
 use Rattle.gtd_hours.specs.declared.hours.Hours.{Hours}
-use Rattle.gtd_hours_loose.specs.Manners.{IsReadFaultIn}
-use Rattle.gtd_hours_loose.specs.Reading.{IsLooseReading}
 use Rattle.gtd_hours_loose.specs.declared.manner.Manner.{Manner}
 use Rattle.gtd_hours_loose.specs.declared.manner.Manner.TheVariants as manner
-use Rattle.gtd_hours_known.specs.declared.fault.KnownFault.TheVariants as known
-use Rattle.gtd_hours_loose.specs.declared.reader.LooseFault.{LooseFault}
-use Rattle.gtd_hours_loose.specs.declared.reader.LooseFault.TheVariants as loose
-use Rattle.gtd_hours_loose.specs.declared.reader.LooseHours.{LooseHours}
-use Rattle.gtd_hours_loose.specs.declared.reader.LooseReadFault.{LooseReadFault}
-use Rattle.gtd_hours_loose.specs.declared.reader.LooseReadFault.TheVariants as reading
 use Rattle.gtd_hours_loose_tokens.specs.declared.token.DayNames.{DayNames}
-use Rattle.gtd_hours_options.specs.declared.fault.OptionsFault.{OptionsFault}
-use Rattle.gtd_hours_options.specs.declared.fault.OptionsFault.TheVariants as wrong
 use Rattle.gtd_hours_search.specs.Membership.{InDomain}
 use Rattle.gtd_text.specs.Canonical.{canonical}
 use Rattle.gtdesk_plans.specs.Arguments.{Text}
@@ -32,7 +21,6 @@ use Rattle.gtdesk_tool.specs.declared.ending.Ending.TheVariants as ending
 use Rattle.gtdesk_tool.specs.declared.refusal.RunRefusal.{RunRefusal}
 use Rattle.gtdesk_tool.specs.declared.refusal.RunRefusal.TheVariants as refusal
 use Rattle.gtdesk_words.specs.HoursWords.{too_many}
-use Rattle.gtdesk_words.specs.declared.refusal.NoDomain.TheVariants as none
 
 -- A text that is to be written strictly is read as it is written; another one also where it is written loosely, with these names
 -- of weekdays.
@@ -45,26 +33,6 @@ pub record Translates (hours : Hours) (line : List ℕ) : Type 0 where
   pub domain : Domain
   pub same : (s : ℤ) → InDomain domain s ↔ IsOpen hours s
   pub written : line ≡ canonical (domain_tree domain) ++ codes "\n"
-
--- The line of the hours that the text stands for, as they are strictly written.
-pub record IsMendedLine (names : DayNames) (text : Text) (line : List ℕ) : Type 0 where
-  pub read : LooseHours
-  pub reads : IsLooseReading names text read
-  pub written : line ≡ hours_text read.hours ++ codes "\n"
-
--- a fault of a text that is read without options, as one with them
-abbrev pub loose_fault : LooseFault → OptionsFault
-loose_fault (loose.Hours why) = wrong.Known (known.Hours why)
-loose_fault (loose.Ambiguous place) = wrong.Known (known.Ambiguous place)
-
--- The refusal of a text that is not read.
-abbrev pub unread : LooseReadFault → RunRefusal
-unread (reading.Fault why) = refusal.NoDomain (none.Fault (loose_fault why))
-unread reading.NoMemory = refusal.Memory
-
--- The refusal gives the first fault of the text, or is of memory.
-abbrev pub IsUnread : Manner → Text → RunRefusal → Type 0
-IsUnread how text r = (fault : LooseReadFault) × IsReadFaultIn how text fault × (r ≡ unread fault)
 
 -- The refusal is of memory, or the hours take too many basic domains, which are counted.
 abbrev pub IsUntranslated : Hours → RunRefusal → Type 0

@@ -13,7 +13,7 @@ use Rattle.gtd_picture.specs.Domain.{HasPut, IsDomainSeen}
 use Rattle.gtd_picture.specs.Open.{IsOpenSeen}
 use Rattle.gtdesk_tool.specs.Hours.{IsHoursLine}
 use Rattle.gtdesk_tool.specs.TextHours.{RanHoursPlan, manner_in}
-use Rattle.gtdesk_tool.specs.LooseHours.{IsMendedLine, IsUnread}
+use Rattle.gtdesk_tool.specs.MendedHours.{IsMendedLine, IsUnmended}
 use Rattle.gtdesk_tool.specs.Mended.{RanMended}
 use Rattle.gtdesk_tool.specs.Noted.{IsNoted, vehicle_note}
 use Rattle.gtdesk_tool.specs.Telling.{IsUntold, Telling, Told, ToldIfSome}
@@ -34,7 +34,6 @@ use Rattle.gtd_hours_file.specs.declared.translated.Translated.{Translated}
 use Rattle.gtd_hours_file.specs.declared.untranslated.Untranslated.{Untranslated}
 use Rattle.gtd_hours_file.specs.declared.untranslated.Untranslated.TheVariants as hours
 use Rattle.gtd_hours_options.specs.declared.options.Options.{Options}
-use Rattle.gtd_hours_loose.specs.declared.manner.Manner.TheVariants as manner
 use Rattle.gtd_now.specs.Now.{IsNowOf}
 use Rattle.gtd_now.specs.Query.{Query}
 use Rattle.gtd_now.specs.Run.{TellsVehicle, entries_of}
@@ -254,8 +253,7 @@ HasRunPlan (plan.Records p) options path file old new silent ended errors result
 HasRunPlan (plan.Mend name) options path file old new silent ended errors result =
     RanMended path file old new silent ended errors result
 HasRunPlan (plan.MendHours p) options path file old new silent ended errors result =
-    PutText (IsMendedLine p.names (string_bytes p.text)) (IsUnread (manner.Loose p.names) (string_bytes p.text)) old new ended
-    result
+    PutText (IsMendedLine p.names (string_bytes p.text)) (IsUnmended p.names (string_bytes p.text)) old new ended result
 HasRunPlan (plan.Show text) options path file old new silent ended errors result =
     PutText (λ t. t ≡ string_bytes text) (λ r. ⊥) old new ended result
 

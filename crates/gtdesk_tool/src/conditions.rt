@@ -77,7 +77,8 @@ pub fn perform_conditions<I: Input, J: Input, O: Output, E: Output>(
     requires tellable { E.failure_count errors.old < u64.MAX }
     // What the output took, and what the output for errors took, by the answer.
     ensures ran { RanConditions turn.entry.plan.now turn.entry.options.now (I.to_come tags.old) (J.to_come means.old)
-        (O.taken output.old) (O.taken output.new) (I.may_fall_silent tags.old) (J.may_fall_silent means.old) (O.is_ended output.new)
+        (O.taken output.old) (O.taken output.new) (I.may_fall_silent tags.old) (J.may_fall_silent means.old)
+        (O.is_ended output.new)
         (telling (E.taken errors.old) (E.taken errors.new) (E.failure_count errors.old) (E.failure_count errors.new)) result }
     // Each failure of an input or of the output is told, and nothing else is told as one.
     ensures tags_faults { I.failure_count tags.new ≡ failures_after_read result (I.failure_count tags.old) }

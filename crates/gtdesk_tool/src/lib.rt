@@ -15,6 +15,7 @@ mod hours_records;
 mod line;
 mod loose_hours;
 mod mended;
+mod mended_hours;
 mod now;
 mod performer;
 mod picture;

@@ -1,16 +1,13 @@
-//! The line of the domain of hours, and `mend hours`, which prints the strict form of a text.
+//! The line of the domain of hours, and those of warnings.
 
 ghost use Rattle.std.specs.Prelude.{◌≡◌, ◌++◌, ◌<◌, IfErr, IfOk, codes, string_bytes};
 ghost use Rattle.gtd_core.specs.Parts.{domain_tree};
-ghost use Rattle.gtd_hours_loose.specs.Manners.{IsReadingIn};
 ghost use Rattle.gtd_text.specs.Canonical.{canonical};
 ghost use Rattle.gtdesk_words.specs.HoursWords.{IsTranslation};
-ghost use Rattle.gtdesk_tool.specs.LooseHours as spec;
-ghost use Rattle.gtdesk_tool.specs.LooseHours.{IsMendedLine, IsUnread, IsUntranslated, PutLines, Translates, manner_of};
-ghost use Rattle.gtdesk_tool.specs.Running.{PutText, failures_after_write};
+ghost use Rattle.gtdesk_tool.specs.LooseHours.{IsUntranslated, PutLines, Translates, manner_of};
+ghost use Rattle.gtdesk_tool.specs.Running.{failures_after_write};
 ghost use Rattle.gtdesk_tool.specs.Telling.{telling};
 
-use crate::domain_hours::hours_line_of;
 use crate::ending::Ending;
 use crate::hours_records::tell_if_some;
 use crate::performer::print_text;
@@ -19,10 +16,8 @@ use gtd_core::Domain;
 use gtd_devices::Output;
 use gtd_hours::Hours;
 use gtd_hours_domain::{TranslationFault, cost_of, domain_of};
-use gtd_hours_known::KnownFault;
-use gtd_hours_loose::{LooseFault, LooseHours, LooseReadFault, Manner, read_hours_in};
+use gtd_hours_loose::Manner;
 use gtd_hours_loose_tokens::DayNames;
-use gtd_hours_options::OptionsFault;
 use gtd_text::print_domain;
 use gtdesk_words::NoDomain;
 use std::alloc::{AllocError, Global};
@@ -45,39 +40,6 @@ pub(crate) fn manner_of(strict: bool, names: DayNames) -> Manner
         Manner::Strict
     } else {
         Manner::Loose(names)
-    }
-}
-
-// A fault of a text that is read without options, as one with them.
-fn loose_fault(fault: LooseFault) -> OptionsFault
-    ensures { result ≡ spec.loose_fault fault }
-{
-    match fault {
-        LooseFault::Hours(fault) => OptionsFault::Known(KnownFault::Hours(fault)),
-        LooseFault::Ambiguous { place } => OptionsFault::Known(KnownFault::Ambiguous { place }),
-    }
-}
-
-// Why a text is not read.
-fn unread(fault: LooseReadFault) -> RunRefusal
-    ensures { result ≡ spec.unread fault }
-{
-    match fault {
-        LooseReadFault::Fault(fault) => {
-            RunRefusal::NoDomain(NoDomain::Fault(loose_fault(fault)))
-        }
-        LooseReadFault::NoMemory => RunRefusal::Memory,
-    }
-}
-
-// The hours that the text stands for, with its strict form if it is written loosely.
-fn read(alloc: Global, text: &str, manner: Manner) -> Result<LooseHours, RunRefusal>
-    ensures read { IfOk result (IsReadingIn manner text.now) }
-    ensures refused { IfErr result (IsUnread manner text.now) }
-{
-    match read_hours_in(alloc, text.as_bytes(), manner) {
-        Ok(read) => Ok(read),
-        Err(fault) => Err(unread(fault)),
     }
 }
 
@@ -138,40 +100,6 @@ pub(crate) fn put_lines<O: Output, E: Output>(
             tell_if_some(errors, lines.warnings.as_slice());
             Ok(ending)
         }
-        Err(refusal) => Err(refusal),
-    }
-}
-
-// The line of the hours that the text stands for, as they are strictly written.
-fn mended_line(alloc: Global, text: &str, names: DayNames) -> Result<String, RunRefusal>
-    ensures line { IfOk result (λ line. IsMendedLine names text.now (string_bytes line)) }
-    ensures refused { IfErr result (IsUnread (Manner.Loose names) text.now) }
-{
-    let read = match read(alloc, text, Manner::Loose(names)) {
-        Ok(read) => read,
-        Err(refusal) => return Err(refusal),
-    };
-    match hours_line_of(alloc, &read.hours) {
-        Ok(line) => Ok(line),
-        Err(_) => Err(RunRefusal::Memory),
-    }
-}
-
-/// Puts the hours that the text stands for as they are strictly written, and ends the output.
-pub(crate) fn print_mended_hours<O: Output>(
-    alloc: Global,
-    output: &mut O,
-    text: &str,
-    names: DayNames,
-) -> Result<Ending, RunRefusal>
-    requires writable { O.failure_count output.old < u64.MAX }
-    ensures put { PutText (IsMendedLine names text.now) (IsUnread (Manner.Loose names) text.now) (O.taken output.old)
-        (O.taken output.new) (O.is_ended output.new) result }
-    ensures write_faults { O.failure_count output.new
-        ≡ failures_after_write result (O.failure_count output.old) }
-{
-    match mended_line(alloc, text, names) {
-        Ok(line) => print_text(output, line.as_str()),
         Err(refusal) => Err(refusal),
     }
 }

@@ -11,8 +11,9 @@ ghost use Rattle.gtdesk_tool.specs.Telling.{telling};
 use crate::domain_hours::print_hours_of;
 use crate::ending::Ending;
 use crate::hours_records::{RecordsTurn, print_records};
-use crate::loose_hours::{manner_of, print_mended_hours};
+use crate::loose_hours::manner_of;
 use crate::mended::print_mended;
+use crate::mended_hours::print_mended_hours;
 use crate::now::{NowTurn, form_of, print_now};
 use crate::picture::{print_domain, print_picture};
 use crate::refusal::RunRefusal;
@@ -156,10 +157,11 @@ pub struct Turn<'a> {
     pub options: &'a Options,
 }
 
-/// Carries a plan out for one of its files, whose bytes the input brings: puts what it asks for, and ends the output. If the plan
-/// reads none, nothing is pulled. Four plans put something to the output for errors: `now` a note, if no row of the file is for
-/// the vehicle type; `records` warnings of a file of hours, or all its faults; `mend` what it changed; and `hours` warnings of
-/// its text, or all faults of its table of holidays. If that output fails, a first part of this stands, and the answer is the same.
+/// Carries a plan out for one of its files, whose bytes the input brings: puts what it asks for, and ends the output. If the
+/// plan reads none, nothing is pulled. Four plans put something to the output for errors: `now` a note, if no row of the file
+/// is for the vehicle type; `records` warnings of a file of hours, or all its faults; `mend` what it changed; and `hours`
+/// warnings of its text, or all faults of its table of holidays. If that output fails, a first part of this stands, and the
+/// answer is the same.
 ///
 /// `Records` is the file's first fault, or why the input failed; `NoHours` is answered if no opening hours are found for a
 /// domain, and `NoDomain` if a text is no opening hours or the domain of these is too large. `Write` is answered exactly if the

@@ -71,8 +71,8 @@ pub fn no_options() -> Options
     }
 }
 
-// Why a text is not read.
-fn unread(fault: OptionsReadFault) -> RunRefusal
+/// Why a text is not read.
+pub(crate) fn unread(fault: OptionsReadFault) -> RunRefusal
     ensures { result ≡ spec.unread fault }
 {
     match fault {

@@ -2,7 +2,6 @@
 use Rattle.std.proofs.Common.{◌≡◌, ℕ, ◌+◌, ◌*◌, ◌<◌, ◌≤◌, Bool, true, false, Option, Some, None, refl, sym, ap, subst, arith}
 use Rattle.std.specs.Prelude.{◌-◌, nat_le, if◌then◌else◌}
 use Rattle.std.proofs.lemmas.Bool.{le-leb, leb-true, leb-false}
-use Rattle.gtd_hours.specs.Ranges.{IsMovable}
 use Rattle.gtd_hours_parts.specs.declared.piece.Offset.{Offset}
 use Rattle.gtd_hours_moves.specs.Grammar.{IsOffset, Suits}
 use Rattle.gtd_hours_moves.specs.Sound.{Reaches, ReachesTo}

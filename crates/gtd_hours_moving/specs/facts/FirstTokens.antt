@@ -17,9 +17,11 @@ use Rattle.gtd_hours_ranges.specs.declared.written.WrittenEnd.TheVariants.{Day, 
 use Rattle.gtd_hours_ranges.specs.declared.written.WrittenPlace.{WrittenPlace}
 use Rattle.gtd_hours_moving.specs.Begins.{at_number, begins_offset, behind_brackets, behind_end, behind_month, behind_offset}
 use Rattle.gtd_hours_moving.specs.Moving.{IsMovingFront, IsReadFront}
-use Rattle.gtd_hours_moving.specs.Kinds.{begins, is_bracket, is_closing, is_dash, is_day, is_number, is_plus, is_sign, is_weekday, later}
+use Rattle.gtd_hours_moving.specs.Kinds.{begins, is_bracket, is_closing, is_dash, is_day, is_number, is_plus, is_sign}
+use Rattle.gtd_hours_moving.specs.Kinds.{is_weekday, later}
 use Rattle.gtd_hours_moving.specs.Words.{begins_easter}
-use Rattle.gtd_hours_moving.specs.Reading.{◌>>=◌, behind_read, dated_end, day_end, days_front, easter_end, easter_offset, end_front}
+use Rattle.gtd_hours_moving.specs.Reading.{◌>>=◌, behind_read, dated_end, day_end, days_front, easter_end, easter_offset}
+use Rattle.gtd_hours_moving.specs.Reading.{end_front}
 use Rattle.gtd_hours_moving.specs.Reading.{end_tokens, fault_at, is_easter_moved, is_moved, is_up_to, one_day, range_from}
 use Rattle.gtd_hours_moving.specs.Reading.{length_in, last_year_front, misfit, month_end, month_front, moved_end}
 use Rattle.gtd_hours_moving.specs.Reading.{number_at, offset_by}
@@ -413,7 +415,8 @@ easter-rest true n t ts end e u moved is h =
 easter-rest false n t ts end e u moved is h =
     let same = same_end (record { end = Easter 0 false t.from; last = t }) e is in
     let one : end_tokens e.end ≡ 1 = sym (ap (λ (x : ReadEnd). end_tokens x.end) same) in
-    let none : begins_offset ts ≡ false = not_moved (begins_offset ts) (begins is_plus ts) (begins is_dash ts && begins is_weekday (later ts)) moved in
+    let none : begins_offset ts ≡ false =
+    not_moved (begins_offset ts) (begins is_plus ts) (begins is_dash ts && begins is_weekday (later ts)) moved in
     let there : IsBehind n ts u = rw none at h in
     move (suc n) (n + end_tokens e.end) (t ∷ ts) u (counted n (end_tokens e.end) one) there
   where

@@ -1,6 +1,7 @@
 -- A range that is written is one selector.
 use mathlib.Core.HLevel.{is_prop→PathP}
-use Rattle.std.proofs.Common.{◌≡◌, inl, inr, refl, sym, ap, subst, ◌∙◌, ℕ, ◌+◌, Bool, true, false, ℤ, pos, neg_ℤ, ◌+ℤ◌, ◌-ℤ◌, ◌≤ℤ◌, ◌<ℤ◌, ◌||◌}
+use Rattle.std.proofs.Common.{◌≡◌, inl, inr, refl, sym, ap, subst, ◌∙◌, ℕ, ◌+◌, Bool, true, false, ℤ, pos, neg_ℤ, ◌+ℤ◌, ◌-ℤ◌}
+use Rattle.std.proofs.Common.{◌≤ℤ◌, ◌<ℤ◌, ◌||◌}
 use Rattle.std.proofs.Common.{Option, Some, None, arith}
 use Rattle.std.proofs.Props.{props}
 use Rattle.gtd_calendar.specs.Calendar.{day_number}
@@ -14,7 +15,6 @@ use Rattle.gtd_hours.specs.facts.OrderFacts.{order-to}
 use Rattle.gtd_hours.specs.facts.PlaceFacts.{end-is, end-only}
 use Rattle.gtd_hours.specs.declared.hours.Dated.{Dated}
 use Rattle.gtd_hours.specs.declared.hours.MonthDay.{MonthDay}
-use Rattle.gtd_hours.specs.declared.hours.Selector.{Selector}
 use Rattle.gtd_hours.specs.declared.hours.Selector.TheVariants as selector
 use Rattle.gtd_hours.specs.declared.hours.WeekdayPlace.{WeekdayPlace}
 use Rattle.gtd_hours.specs.declared.hours.YearDate.{YearDate}

@@ -1,6 +1,6 @@
 -- What the rows and the change of a value say.
-use Rattle.std.proofs.Common.{◌≡◌, refl, arith, ◌<◌, ◌+◌, inl, inr, ◌↔◌, ℕ, List, [], ◌∷◌, Option, Some, None}
-use Rattle.std.specs.Prelude.{ℤ, pos, ◌*ℤ◌, IsTrue, IfSome, MatchOption}
+use Rattle.std.proofs.Common.{◌≡◌, refl, arith, ◌+◌, ◌↔◌, ℕ, List, [], ◌∷◌, Option, Some, None}
+use Rattle.std.specs.Prelude.{ℤ, pos, ◌*ℤ◌, IsTrue, MatchOption}
 use Rattle.gtd_calendar.specs.Calendar.{IsCalendarDay}
 use Rattle.gtd_core.specs.Seconds.{day_of_second, IsHorizonSecond}
 use Rattle.gtd_core.specs.declared.second.Sec.{Sec}

@@ -1,5 +1,5 @@
 -- An element has a state at each second.
-use Rattle.std.proofs.Common.{◌≡◌, refl, subst, arith, ◌<◌, ◌+◌, ◌⊎◌, inl, inr, ℕ, zero, suc, List}
+use Rattle.std.proofs.Common.{◌≡◌, refl, subst, arith, ◌+◌, ◌⊎◌, inl, inr, ℕ, zero, suc, List}
 use Rattle.std.proofs.Common.{Option, Some, None}
 use Rattle.std.specs.Prelude.{ℤ, pos, ◌+ℤ◌, ◌-ℤ◌, ◌*ℤ◌, negsuc, ◌≤ℤ◌, ◌<ℤ◌, MatchOption}
 use Rattle.std.proofs.lemmas.Int.{ints, by_lt_z}
@@ -17,7 +17,7 @@ use Rattle.gtd_states.specs.facts.RowFacts.{open_by_rows}
 
 -- ---- the end
 
-some_end : (day : ℤ) → (last : ℤ) × IsLookEnd day last
+pub some_end : (day : ℤ) → (last : ℤ) × IsLookEnd day last
 some_end day =
     by_lt_z {P = (last : ℤ) × IsLookEnd day last} horizons_end (day +ℤ pos most_horizon_days)
     (λ lt. (horizons_end, inr (refl, lt)))

@@ -1,30 +1,18 @@
--- Days of holidays lie near the years, so their runs are short, and their selectors have the days of the set.
-use Rattle.gtd_core.specs.Limits.{first_calendar_day}
-use Rattle.gtd_hours.specs.Opening.{SomeHolds}
-use Rattle.gtd_hours_days.specs.Listed.{SomeListed}
-use Rattle.gtd_hours_days.proofs.AdditionFacts.{some_near}
-use Rattle.gtd_hours_days.proofs.CoverFacts.{short_runs}
-use Rattle.gtd_hours_known.specs.HolidayDays.{AreRangesOf}
-use Rattle.gtd_hours_known.proofs.DayFacts.{days_of_runs, ranges_apart, some_ranges}
+-- The days are written as groups and runs, and the selectors have the days of these.
+use Rattle.gtd_hours_known.proofs.DayFacts.{some_written}
 use Rattle.gtd_hours_known.proofs.selectors.listed_selectors.Goals as goal
 
-pub run_selectors-requires : goal.run_selectors-requires
-run_selectors-requires c =
-    let selected = c.in_ok-days.ensures.selected in
-    rw c.as_slice.ensures.value
-    (short_runs c.in_ok-days.days c.args.years first_calendar_day c.in_ok-runs.runs.items c.in_ok-runs.ensures.runs
-    (λ n h. some_near c.args.holidays.now.rows.items c.args.years c.args.listed.now n ((selected.1 n).0 h)))
+pub written_selectors-requires : goal.written_selectors-requires
+written_selectors-requires c = c.in_ok-found.ensures.grouped.3
 
 pub returns-clause-days : goal.returns-clause-days
 returns-clause-days c =
-    let selected = c.in_ok-days.ensures.selected in
-    let ranges : AreRangesOf c.in_ok-runs.runs.items c.in_ok-selectors.selectors.items =
-    rw c.as_slice.ensures.value at c.in_ok-selectors.ensures in (
-      selected.0,
-      λ n f. days_of_runs (SomeHolds c.in_ok-selectors.selectors.items n f)
-          (SomeListed c.args.holidays.now.rows.items c.args.years c.args.listed.now n) c.in_ok-days.days
-          c.in_ok-runs.runs.items n c.in_ok-runs.ensures.runs
-          (some_ranges c.in_ok-runs.runs.items c.in_ok-selectors.selectors.items n f ranges) (selected.1 n),
-      ranges_apart c.in_ok-days.days first_calendar_day c.in_ok-runs.runs.items c.in_ok-selectors.selectors.items
-          c.in_ok-runs.ensures.runs ranges,
+    let found = c.in_ok-found.found in
+    let grouped = c.in_ok-found.ensures.grouped in
+    let written = c.in_ok-days.ensures in (
+      grouped.0,
+      (λ n f.
+          let same = some_written c.args.years found.yearly.items found.dated.items c.in_ok-days.days.items n f written in
+          ((λ h. (grouped.2 n).0 (same.0 h)), (λ h. same.1 ((grouped.2 n).1 h)))),
+      (found.yearly.items, found.dated.items, grouped.1, written),
     )

@@ -35,10 +35,10 @@ returns-in_err-put_line-clause-puts g c =
     let b = g.O.Output.taken c.put_line.new.output in
     let line = c.as_slice.result.now in
     let e = c.in_err-put_line.ensures in
-    rw (p.1) (texts_of (AreEntries c.args.view.now.lines.now c.args.found.now (query_of c.args.view.now.asked)
+    rw (p.1) (texts_of (AreEntries c.args.view.now.lines.now c.args.view.now.found.now (query_of c.args.view.now.asked)
     c.args.at.element c.args.at.direction)
     (Err p.0) a b c.args.printer.now.progress c.put_line.new.progress
-    (line ∷ []) (one_entries c.args.view.now.lines.now c.args.found.now (query_of c.args.view.now.asked)
+    (line ∷ []) (one_entries c.args.view.now.lines.now c.args.view.now.found.now (query_of c.args.view.now.asked)
     c.args.at.element c.args.at.direction)
     (AreEntries.shown (c.is_shown.ensures.0 c.if-not-is_shown.false) line
     (rw (c.as_slice.ensures.value) (c.in_ok-write_entry.ensures.entry)) refl)

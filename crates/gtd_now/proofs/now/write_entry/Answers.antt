@@ -7,7 +7,7 @@ use Rattle.gtd_now.proofs.now.write_entry.Goals as goal
 
 pub returns-clause-entry : goal.returns-clause-entry
 returns-clause-entry c =
-    on_ok c.check_length.result _ (IsEntry c.args.view.now.lines.now c.args.found.now
+    on_ok c.check_length.result _ (IsEntry c.args.view.now.lines.now c.args.view.now.found.now
     (query_of c.args.view.now.asked) c.args.at.element c.args.at.direction
     c.push_entry.new.line.items)
     (λ short. record {

@@ -1,12 +1,21 @@
 -- Of a file that is read without fault the output takes the entries; of any other one the first fault is answered.
-use Rattle.std.proofs.Common.{List, Some}
+use Rattle.std.proofs.Common.{List, Some, subst, sym}
 use Rattle.std.specs.Prelude.{⊤}
 use Rattle.gtd_records.specs.Closing.{Restriction}
 use Rattle.gtd_report.specs.facts.RunFacts.{has_run}
 use Rattle.gtd_now.proofs.NowFacts.{known, one_entries, puts_now}
 use Rattle.gtd_now.specs.Now.{IsNow}
 use Rattle.gtd_now.specs.Query.{query_of}
+use Rattle.gtd_states.specs.Known.{AreRight}
+use Rattle.gtd_states.specs.declared.known.KnownChange.{KnownChange}
 use Rattle.gtd_now.proofs.run.put_now.Goals as goal
+
+pub invariant_of-state : goal.invariant_of-state
+invariant_of-state g c = record {
+  in_range = c.requires.in_range;
+  right = subst (λ (l : List KnownChange). AreRight c.in-Ok.found c.args.asked.now.vehicle c.args.asked.now.second.0 l)
+      (sym c.as_slice-2.ensures.value) c.in-Ok-known_changes.ensures.right;
+}
 
 pub put_by_element-put-requires-clause-one : goal.put_by_element-put-requires-clause-one
 put_by_element-put-requires-clause-one g c = one_entries c.as_slice.result.now c.in-Ok.found (query_of c.args.asked.now)

@@ -1,8 +1,7 @@
 -- A plan that reads no file tells of no failure of the input, since nothing that it answers is one.
-use Rattle.gtd_hours_loose.specs.declared.manner.Manner.TheVariants as manner
 use Rattle.gtdesk_tool.proofs.RunningFacts.{of_hours, of_memory, of_none, unread_picture, unread_text}
 use Rattle.gtdesk_tool.proofs.ComparingFacts.{unread_comparison}
-use Rattle.gtdesk_tool.proofs.LooseFacts.{of_unread}
+use Rattle.gtdesk_tool.proofs.LooseFacts.{of_unmended}
 use Rattle.gtdesk_tool.proofs.performer.perform.Goals as goal
 
 pub returns-in-DomainPicture-clause-read_faults : goal.returns-in-DomainPicture-clause-read_faults
@@ -16,7 +15,7 @@ returns-in-HoursOf-clause-read_faults g c = unread_text _ _ _ _ _ _ (of_hours _)
 
 pub returns-in-MendHours-clause-read_faults : goal.returns-in-MendHours-clause-read_faults
 returns-in-MendHours-clause-read_faults g c =
-    unread_text _ _ _ _ _ _ (of_unread (manner.Loose _) _ _) _ c.print_mended_hours.ensures.put
+    unread_text _ _ _ _ _ _ (of_unmended _ _ _) _ c.print_mended_hours.ensures.put
 
 pub returns-in-Same-clause-read_faults : goal.returns-in-Same-clause-read_faults
 returns-in-Same-clause-read_faults g c = unread_comparison _ _ _ _ _ _ _ _ c.print_comparison.ensures.compared

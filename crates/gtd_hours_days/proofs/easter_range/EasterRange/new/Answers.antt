@@ -1,5 +1,4 @@
 -- The order of one year says whether ranges go on to the next, and then all years must be so.
-use Rattle.std.proofs.Common.{sym}
 use Rattle.gtd_hours_days.proofs.EasterFacts.{over_is}
 use Rattle.gtd_hours_days.proofs.easter_range.EasterRange.new.Goals as goal
 

@@ -1,0 +1,5 @@
+pub mod Alike
+pub mod Firsts
+pub mod Kinds
+pub mod Ready
+pub use Rattle.gtd_records.specs.Closing

@@ -1,0 +1,9 @@
+pub mod Joining
+pub mod Selecting
+pub mod Days
+pub mod Times
+pub mod Comments
+pub mod Rules
+pub mod Making
+pub mod Mending
+pub mod Stops

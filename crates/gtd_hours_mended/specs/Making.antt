@@ -1,0 +1,63 @@
+-- The rules of a text, each with the hours of its own text, its times and its comment.
+use Rattle.std.specs.Prelude.{◌≡◌, ◌⊎◌, ℕ, List, [], ◌∷◌, drop, is_some, length, take}
+use Rattle.gtd_hours.specs.declared.hours.Hours.{Hours}
+use Rattle.gtd_hours_grammar.specs.Faults.{IsFirstFault}
+use Rattle.gtd_hours_grammar.specs.declared.fault.HoursFault.{HoursFault}
+use Rattle.gtd_hours_text.specs.Standing.{StandsFor}
+use Rattle.gtd_hours_moving.specs.Words.{stretch}
+use Rattle.gtd_hours_holiday_rules.specs.declared.rules.HolidayRule.{HolidayRule}
+use Rattle.gtd_hours_moments.specs.declared.moment.TimeForm.{TimeForm}
+use Rattle.gtd_hours_mended.specs.Comments.{no_comment}
+use Rattle.gtd_hours_mended.specs.Rules.{first_times}
+use Rattle.gtd_hours_mended.specs.declared.comments.Stretch.{Stretch}
+use Rattle.gtd_hours_mended.specs.declared.making.MakeStop.{MakeStop}
+use Rattle.gtd_hours_mended.specs.declared.making.MakeStop.TheVariants as stop
+use Rattle.gtd_hours_mended.specs.declared.rule.MendedRule.{MendedRule}
+
+abbrev pub first_comment : List Stretch → Stretch
+first_comment [] = no_comment
+first_comment (comment ∷ comments) = comment
+
+-- how many times the rule of hours has
+abbrev pub times_in : Hours → ℕ
+times_in own = length (first_times own.rules.items)
+
+-- the comment that stands there in a text
+abbrev pub comment_in : List ℕ → Stretch → List ℕ
+comment_in text comment = stretch text comment.from comment.to
+
+-- The rule is that of a text, where it has this comment and the forms of times from its own on are these. In its own text a range
+-- of times stands for each of its forms.
+pub record IsMade (comment : List ℕ) (from : HolidayRule) (left : List TimeForm) (rule : MendedRule) : Type 0 where
+  pub link : rule.link ≡ from.link
+  pub led : rule.is_led ≡ from.is_led
+  pub unknown : rule.is_unknown ≡ is_some from.unknown
+  pub holidays : rule.holidays.items ≡ from.holidays.items
+  pub dates : rule.dates.items ≡ from.dates.items
+  pub easter : rule.easter.items ≡ from.easter.items
+  pub own : StandsFor from.text.items rule.own
+  pub times : rule.forms.items ≡ take (times_in rule.own) left
+  pub has : rule.comment.items ≡ comment
+
+-- So are these rules, where these comments and forms are left.
+abbrev pub AreMade : List ℕ → List HolidayRule → List Stretch → List TimeForm → List MendedRule → Type 0
+AreMade text [] comments forms made = made ≡ []
+AreMade text (from ∷ more) comments forms made =
+    (rule : MendedRule) × (others : List MendedRule) × (made ≡ rule ∷ others)
+    × IsMade (comment_in text (first_comment comments)) from forms rule
+    × AreMade text more (drop 1 comments) (drop (times_in rule.own) forms) others
+
+-- why it is not made
+abbrev pub IsOwnStop : HolidayRule → MakeStop → Type 0
+IsOwnStop from (stop.Own bad) = IsFirstFault from.text.items bad
+IsOwnStop from stop.NoMemory = Unit {0}
+
+-- The own text of one of the rules has this first fault.
+abbrev pub IsOwnFault : List HolidayRule → HoursFault → Type 0
+IsOwnFault [] bad = ⊥
+IsOwnFault (from ∷ more) bad = IsFirstFault from.text.items bad ⊎ IsOwnFault more bad
+
+-- why rules are not made
+abbrev pub IsMakeStop : List HolidayRule → MakeStop → Type 0
+IsMakeStop found (stop.Own bad) = IsOwnFault found bad
+IsMakeStop found stop.NoMemory = Unit {0}
