@@ -9,6 +9,7 @@ is what `date` prints in that zone. Run it after `rt ci`, which builds the progr
 
 Usage: tests/now_forms.py [COUNT [SEED]]
 """
+import contextlib
 import csv
 import io
 import json
@@ -83,15 +84,21 @@ def numbers_of(column):
     return [int(number) for number in column.split(";") if number]
 
 
-def check(dice, rows, moment, *options):
-    """Compares the forms of one answer."""
-    text, places = text_of(dice, rows)
+@contextlib.contextmanager
+def asked_of(text, rows, moment, *options):
+    """A call that asks a file with this text, which has these rows, with more options."""
     with tempfile.NamedTemporaryFile("w", suffix=".csv", newline="", encoding="utf-8") as file:
         file.write(text)
         file.flush()
         some = any(row[2] in ("0", "11") for row in rows)
         note = "" if some else f"gtdesk: {file.name}: note: no row is for vehicle type 11\n"
-        now = lambda *more: run("gtdesk", "now", file.name, moment, "11", *options, *more, note=note)
+        yield lambda *more: run("gtdesk", "now", file.name, moment, "11", *options, *more, note=note)
+
+
+def check(dice, rows, moment, *options):
+    """Compares the forms of one answer."""
+    text, places = text_of(dice, rows)
+    with asked_of(text, rows, moment, *options) as now:
         lines = list(csv.DictReader(io.StringIO(now())))
         wanted = [{"element": int(line["element"]), "direction": line["direction"], "vehicle": int(line["vehicle"]),
                    "state": line["state"], "until": line["until"] or None, "rows": numbers_of(line["rows"])} for line in lines]
@@ -114,14 +121,10 @@ def check(dice, rows, moment, *options):
 def check_alone(dice, rows, moment):
     """Among many elements, of which some are closed by the same domains, each has the lines that it has alone."""
     text, _ = text_of(dice, rows)
-    with tempfile.NamedTemporaryFile("w", suffix=".csv", newline="", encoding="utf-8") as file:
-        file.write(text)
-        file.flush()
-        some = any(row[2] in ("0", "11") for row in rows)
-        note = "" if some else f"gtdesk: {file.name}: note: no row is for vehicle type 11\n"
-        now = lambda *options: run("gtdesk", "now", file.name, moment, "11", *options, note=note).splitlines()[1:]
+    with asked_of(text, rows, moment) as now:
+        lines = lambda *options: now(*options).splitlines()[1:]
         elements = sorted({int(row[0]) for row in rows})
-        assert now() == [line for element in elements for line in now("--element", str(element))]
+        assert lines() == [line for element in elements for line in lines("--element", str(element))]
 
 
 def check_zone(zone):
