@@ -1,10 +1,9 @@
--- What is answered of things that are like earlier ones: of rows with the same domain, and of elements.
+-- What is answered of elements that are like earlier ones.
 use Rattle.std.proofs.Common.{◌≡◌, ◌<◌, ◌≤◌, refl, subst, sym, arith, inl, inr, ℕ, List, length, get_or}
 use Rattle.gtd_records.specs.Closing.{Restriction}
 use Rattle.gtd_records.specs.declared.direction.DirectedElement.{DirectedElement}
 use Rattle.gtd_alike.specs.Alike.{AreFirstAlike, AreOpenAlike, asked_at}
 use Rattle.gtd_alike.specs.Firsts.{IsEarlier}
-use Rattle.gtd_alike.specs.Kinds.{AreKinds, HaveSameDomain}
 
 -- a thing that is an earlier one or itself is like it, if each is like itself
 like_first : (Alike : ℕ → ℕ → Type 0) (first at : ℕ) → ((k : ℕ) → Alike k k) → IsEarlier Alike first at → Alike first at
@@ -14,14 +13,6 @@ like_first Alike first at own (inr h) = h.1
 not_after : (Alike : ℕ → ℕ → Type 0) (first at : ℕ) → IsEarlier Alike first at → first ≤ at
 not_after Alike first at (inl e) = omega (arith, e)
 not_after Alike first at (inr h) = omega (arith, h.0)
-
-pub kinds_of : (rows : List Restriction) (count : ℕ) (kinds : List ℕ) → count ≡ length rows → length kinds ≡ count
-    → ((k : ℕ) → k < count → IsEarlier (HaveSameDomain rows) (get_or kinds k 0) k) → AreKinds rows kinds
-kinds_of rows count kinds all many each = record {
-  many = omega (arith, all, many);
-  same = λ row within.
-      like_first (HaveSameDomain rows) (get_or kinds row 0) row (λ k. refl) (each row (omega (arith, all, within)));
-}
 
 pub first_elements : (found : List Restriction) (vehicle : ℕ) (asked : List DirectedElement) (count : ℕ) (firsts : List ℕ)
     → count ≡ length asked → length firsts ≡ count

@@ -1,4 +1,3 @@
--- Lemmas on lists that grow, and on elements whose rows have the same domains.
+-- Lemmas on lists that grow, and on elements that are like earlier ones.
 mod AlikeFacts
 mod ListFacts
-mod WithinFacts

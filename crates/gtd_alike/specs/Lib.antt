@@ -1,5 +1,4 @@
 pub mod Alike
 pub mod Firsts
-pub mod Kinds
 pub mod Ready
 pub use Rattle.gtd_records.specs.Closing

@@ -13,20 +13,15 @@ const NOTHING: usize = usize::MAX;
 
 /// When two of many things are alike. They are counted from 0.
 pub(crate) trait Likeness {
-    // What must be known of the things.
-    ghost is_ready: { Self → Type 0 };
-
     // The things are alike.
     ghost alike: { Self → ℕ → ℕ → Type 0 };
 
     /// Whether two things are seen to be alike.
     fn is_alike(&self, first: usize, second: usize) -> bool
-        requires ready { is_ready self.now }
         ensures alike { IsTrue result → alike self.now first second };
 
     /// A hash of a thing. Things that are alike mostly have the same, and others mostly have not.
-    fn hash(&self, at: usize) -> u32
-        requires ready { is_ready self.now };
+    fn hash(&self, at: usize) -> u32;
 }
 
 // Places without things: more than twice as many as there are things.
@@ -54,7 +49,6 @@ fn first_there<L: Likeness>(
     place: usize,
     at: usize,
 ) -> Option<usize>
-    requires ready { L.is_ready things.now }
     ensures first { (first : ℕ) → result ≡ Some first → IsEarlier (L.alike things.now) first at }
 {
     let Some(there) = places.get_mut(place) else {
@@ -73,7 +67,6 @@ fn first_there<L: Likeness>(
 
 // An earlier thing that is like this one, or itself.
 fn first_of<L: Likeness>(things: &L, places: &mut [usize], at: usize) -> usize
-    requires ready { L.is_ready things.now }
     ensures first { IsEarlier (L.alike things.now) result at }
 {
     let hash = things.hash(at);
@@ -92,7 +85,6 @@ pub(crate) fn firsts_of<L: Likeness>(
     things: &L,
     count: usize,
 ) -> Result<Vec<usize>, AllocError>
-    requires ready { L.is_ready things.now }
     ensures many { IfOk result (λ firsts. length firsts.items ≡ count) }
     ensures each { IfOk result (λ firsts. (k : ℕ) → k < count
         → IsEarlier (L.alike things.now) (get_or firsts.items k 0) k) }

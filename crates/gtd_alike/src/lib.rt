@@ -8,6 +8,3 @@ pub use elements::first_alike;
 
 mod elements;
 mod firsts;
-mod hash;
-mod index;
-mod rows;

@@ -22,4 +22,5 @@ pub mod LineEnds
 pub mod DomainLines
 pub mod PlainRows
 pub mod LineParts
+pub mod AlikeFacts
 pub mod AnyOrder

@@ -22,7 +22,7 @@ use std::alloc::{AllocError, Global};
 use std::marker::Model;
 
 // How many records of an element are not compared with one another: so few are joined sooner than compared.
-const FEW: usize = 16;
+const FEW: usize = 4;
 
 // With how many of the records before it a later one is compared.
 const MOST_COMPARED: usize = 64;
@@ -108,7 +108,7 @@ impl Records {
     }
 
     // The places of the element's records.
-    fn places_of_element(&self, element: u64) -> &[RowPlace]
+    pub(crate) fn places_of_element(&self, element: u64) -> &[RowPlace]
         ensures places { AreElementPlaces self.now element result.now }
     {
         let places = self.places.as_slice();
@@ -176,7 +176,7 @@ impl Records {
     }
 
     // Whether the record at one of the places just before has the same domain, and concerns the direction and the vehicle type.
-    fn is_repeated(
+    pub(crate) fn is_repeated(
         &self,
         places: &[RowPlace],
         at: usize,

@@ -6,6 +6,7 @@
 //! [`open_seconds`] says the same span by span. [`next_change`] says when that changes.
 #![tactic(auto)]
 
+pub use alike::{are_closed_alike, hash_of_closing};
 pub use change::next_change;
 pub use column::{read_closed, read_direction, read_number};
 pub use direction::{Closed, DirectedElement, Direction};
@@ -19,6 +20,7 @@ pub use rows::{RowTaker, RowsEnd, next_row, table, take_rows};
 pub use schedule::{open_seconds, schedule_of};
 pub use vehicles::{Codes, Vehicles, Version, read_vehicles};
 
+mod alike;
 mod change;
 mod closing_cursors;
 mod column;

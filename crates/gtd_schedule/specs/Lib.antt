@@ -2,6 +2,7 @@ pub mod Lines
 pub mod Moments
 pub mod Months
 pub mod Schedule
+pub mod Shared
 pub mod Shown
 pub mod Split
 pub mod Theorem

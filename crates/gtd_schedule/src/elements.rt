@@ -12,8 +12,8 @@ use crate::line::{FirstMoments, write_first_moments, write_head, write_span};
 use crate::put::put_whole;
 use crate::run::Schedule;
 use gtd_devices::Output;
-use gtd_records::{Records, open_seconds};
-use gtd_report::{DirectedElement, DirectionLines, ElementLines, Printer, Stop, put_both};
+use gtd_records::Records;
+use gtd_report::{DirectedElement, Printer, Stop};
 use gtd_spans::SpanSource;
 
 /// The lines of a schedule, and the moments over which the first of an element in a direction is written.
@@ -57,8 +57,8 @@ fn put_spans<O: Output, S: SpanSource>(
     Ok(())
 }
 
-// Puts the lines of an element in a direction. A source hands out the spans in which it is open.
-fn put_direction_spans<O: Output, S: SpanSource>(
+/// Puts the lines of an element in a direction. A source hands out the spans in which it is open.
+pub(crate) fn put_direction_spans<O: Output, S: SpanSource>(
     output: &mut O,
     printer: &mut Printer,
     _found: &Records,
@@ -79,35 +79,4 @@ fn put_direction_spans<O: Output, S: SpanSource>(
         ≡ failures_after_stop result (O.failure_count output.old) }
 {
     put_spans(output, printer, at, lines, spans)
-}
-
-impl DirectionLines for ScheduleLines {
-    ghost are_lines = { λ lines found. AreLines found lines.schedule.vehicle lines.schedule.horizon };
-
-    fn put_direction<O: Output>(
-        &self,
-        output: &mut O,
-        printer: &mut Printer,
-        found: &Records,
-        at: DirectedElement,
-    ) -> Result<(), Stop> {
-        let (element, direction) = (at.element, at.direction);
-        let (vehicle, horizon) = (self.schedule.vehicle, self.schedule.horizon);
-        let mut spans = open_seconds(printer.alloc, found, element, direction, vehicle, horizon)?;
-        put_direction_spans(output, printer, found, at, self, &mut spans)
-    }
-}
-
-impl ElementLines for ScheduleLines {
-    ghost are_lines = { λ lines found. AreLines found lines.schedule.vehicle lines.schedule.horizon };
-
-    fn put_element<O: Output>(
-        &self,
-        output: &mut O,
-        printer: &mut Printer,
-        found: &Records,
-        element: u64,
-    ) -> Result<(), Stop> {
-        put_both(output, printer, found, element, self)
-    }
 }

@@ -7,5 +7,8 @@ mod elements;
 pub mod laws;
 mod line;
 mod moment;
+mod places;
 mod put;
 mod run;
+mod shared;
+mod text;

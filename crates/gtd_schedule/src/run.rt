@@ -8,6 +8,8 @@ ghost use Rattle.gtd_schedule.specs.Theorem.{Headline};
 
 use crate::elements::ScheduleLines;
 use crate::line::FirstMoments;
+use crate::shared::{Job, shared_spans};
+use crate::text::ScheduleText;
 use gtd_core::Horizon;
 use gtd_devices::{Input, Output};
 use gtd_records::{RecordFault, Records};
@@ -43,12 +45,22 @@ impl Report for Schedule {
         found: &Records,
     ) -> Result<(), Stop> {
         let header = b"element,direction,vehicle,from,until\n";
+        let job = Job {
+            found,
+            schedule: *self,
+        };
+        let shared = shared_spans(printer.alloc, job)?;
         let first = FirstMoments::of(self.horizon.from());
         let lines = ScheduleLines {
             schedule: *self,
             first,
         };
-        put_by_element(output, printer, found, header, &lines)
+        let text = ScheduleText {
+            lines: &lines,
+            found,
+            shared: &shared,
+        };
+        put_by_element(output, printer, found, header, &text)
     }
 }
 
@@ -56,9 +68,10 @@ impl Report for Schedule {
 /// 99. Answers the number of its lines, the header included.
 ///
 /// In order: `VehicleRange`; then the first fault of reading the file (`Records`); then `WriteFault` or `NoMemory`,
-/// whichever happens first. Nothing is put until the whole file has been read and accepted. Each span is put as it is
-/// found. No list of an element's spans is kept, but at most 4,096 spans of each period that repeats in the rows of an element
-/// and a direction. Before the call, the failures of both devices must be below `u64::MAX`.
+/// whichever happens first. Nothing is put until the whole file has been read and accepted. Of elements that rows with the same
+/// domains close, the spans are found once, if they are few: for each row of the file 16 are kept, and 65,536 at most. Each other
+/// span is put as it is found, and at most 4,096 spans are kept of each period that repeats in the rows of an element and a
+/// direction. Before the call, the failures of both devices must be below `u64::MAX`.
 ///
 /// ```
 /// let file = b"element,direction,vehicle,domain\n17,negative,11,\n";

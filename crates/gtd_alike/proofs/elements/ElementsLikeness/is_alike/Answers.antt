@@ -5,10 +5,10 @@ use Rattle.gtd_records.specs.facts.IndexFacts.{any_default}
 use Rattle.gtd_alike.specs.Alike.{AreOpenAlike, asked_at}
 use Rattle.gtd_alike.proofs.elements.ElementsLikeness.is_alike.Goals as goal
 
-pub returns-then-is_within : goal.returns-then-is_within
-returns-then-is_within c =
+pub returns : goal.returns
+returns c =
     let asked = c.args.self.now.asked.now in
-    let rows = c.args.self.now.rows.now in
+    let rows = c.args.self.now.found.now in
     let vehicle = c.args.self.now.vehicle in
     let first = c.in-Some.one.now in
     let second = c.in-Some-get.other.now in
@@ -20,8 +20,9 @@ returns-then-is_within c =
       alike = λ yes.
           subst (λ (a : DirectedElement). AreOpenAlike rows vehicle a (asked_at asked c.args.second)) one
           (subst (λ (b : DirectedElement). AreOpenAlike rows vehicle first b) other
-          (λ t. (
-            (λ free closed. free (c.is_within-then-is_within.ensures.within yes t closed)),
-            (λ free closed. free (c.is_within.ensures.within c.if-is_within.true t closed)),
+          (λ t.
+          let same = c.are_closed_alike.ensures.alike yes t in (
+            (λ free closed. free (same.1 closed)),
+            (λ free closed. free (same.0 closed)),
           )));
     }

@@ -1,0 +1,84 @@
+//! The lines of all elements.
+
+ghost use Rattle.std.proofs.Props.{props};
+ghost use Rattle.gtd_schedule.specs.Schedule.{AreLines};
+ghost use Rattle.gtd_schedule.specs.Shared.{AreRight};
+
+use crate::elements::{ScheduleLines, put_direction_spans};
+use crate::shared::{Job, Shared, own_spans, spans_for};
+use gtd_devices::Output;
+use gtd_records::{Records, open_seconds};
+use gtd_report::{DirectedElement, DirectionLines, ElementLines, Printer, Stop, put_both};
+
+/// The lines of the elements of a file, of which some spans are known.
+#[derive(Clone, Copy)]
+pub(crate) struct ScheduleText<'a> {
+    pub(crate) lines: &'a ScheduleLines,
+    pub(crate) found: &'a Records,
+    pub(crate) shared: &'a Shared,
+    ghost right: { AreRight found.now lines.now.schedule.vehicle lines.now.schedule.horizon
+        shared.now.lists.items } by { Prim.hlevel props },
+}
+
+impl DirectionLines for ScheduleText<'_> {
+    ghost are_lines = { λ text _. AreLines text.found.now text.lines.now.schedule.vehicle
+        text.lines.now.schedule.horizon };
+
+    fn put_direction<O: Output>(
+        &self,
+        output: &mut O,
+        printer: &mut Printer,
+        _found: &Records,
+        at: DirectedElement,
+    ) -> Result<(), Stop> {
+        let schedule = self.lines.schedule;
+        let job = Job {
+            found: self.found,
+            schedule,
+        };
+        if let Some(open) = spans_for(job, self.shared, at) {
+            let mut spans = open.source();
+            return put_direction_spans(output, printer, self.found, at, self.lines, &mut spans);
+        }
+        let (element, direction) = (at.element, at.direction);
+        let (vehicle, horizon) = (schedule.vehicle, schedule.horizon);
+        let mut spans = open_seconds(
+            printer.alloc,
+            self.found,
+            element,
+            direction,
+            vehicle,
+            horizon,
+        )?;
+        put_direction_spans(output, printer, self.found, at, self.lines, &mut spans)
+    }
+}
+
+impl ElementLines for ScheduleText<'_> {
+    ghost are_lines = { λ text _. AreLines text.found.now text.lines.now.schedule.vehicle
+        text.lines.now.schedule.horizon };
+
+    fn put_element<O: Output>(
+        &self,
+        output: &mut O,
+        printer: &mut Printer,
+        found: &Records,
+        element: u64,
+    ) -> Result<(), Stop> {
+        let job = Job {
+            found: self.found,
+            schedule: self.lines.schedule,
+        };
+        match own_spans(printer.alloc, job, self.shared, element)? {
+            Some(own) => {
+                let text = ScheduleText {
+                    lines: self.lines,
+                    found: self.found,
+                    shared: &own,
+                };
+                put_both(output, printer, found, element, &text)
+            }
+            None => put_both(output, printer, found, element, self),
+        }
+    }
+}
