@@ -1,7 +1,6 @@
 -- The spans that an element shares with another are its own.
-use Rattle.std.proofs.Common.{◌≡◌, ◌⊎◌, ◌↔◌, arith, inl, inr, subst, sym, ℕ, List, [], ◌∷◌, ◌++◌}
+use Rattle.std.proofs.Common.{◌⊎◌, ◌↔◌, arith, inl, inr, subst, ℕ, List, [], ◌∷◌, ◌++◌}
 use Rattle.std.specs.Prelude.{ℤ}
-use Rattle.std.specs.List.{Contains}
 use Rattle.std.proofs.lemmas.Int.{ints, by_lt_z}
 use Rattle.std.proofs.lemmas.List.Elements.{Contains-push_cases}
 use Rattle.gtd_core.specs.Seconds.{Interval}
@@ -10,7 +9,7 @@ use Rattle.gtd_core.specs.declared.horizon.Horizon.{Horizon}
 use Rattle.gtd_eval.specs.Membership.{IsNormalOver}
 use Rattle.gtd_records.specs.Closing.{IsClosed, IsOpen, Restriction}
 use Rattle.gtd_records.specs.declared.direction.DirectedElement.{DirectedElement}
-use Rattle.gtd_spans.specs.Normal.{Holds, IsIn}
+use Rattle.gtd_spans.specs.Normal.{Holds}
 use Rattle.gtd_spans.specs.facts.NormalFor.{normal-for, normal-of}
 use Rattle.gtd_schedule.specs.Shared.{AreRight, IsRight}
 use Rattle.gtd_schedule.specs.declared.shared.SharedSpans.{SharedSpans}

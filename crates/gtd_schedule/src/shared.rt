@@ -51,15 +51,15 @@ fn spans_of(
     most: usize,
 ) -> Result<Option<SharedSpans>, AllocError>
     ensures right { IfOk result
-        (λ found. IfSome found (IsRight job.found.now job.schedule.vehicle job.schedule.horizon)) }
+        (λ found. IfSome found (IsRight job.entry.found.now job.entry.schedule.vehicle job.entry.schedule.horizon)) }
 {
     let (element, direction) = (at.element, at.direction);
     let (vehicle, horizon) = (job.schedule.vehicle, job.schedule.horizon);
     let mut open = open_seconds(alloc, job.found, element, direction, vehicle, horizon)?;
-    match SpanList::collect_within(alloc, &mut open, most)? {
-        Some(spans) => Ok(Some(SharedSpans { at, spans })),
-        None => Ok(None),
-    }
+    let Some(spans) = SpanList::collect_within(alloc, &mut open, most)? else {
+        return Ok(None);
+    };
+    Ok(Some(SharedSpans { at, spans }))
 }
 
 // An element in its positive direction, and in its negative one.
@@ -84,20 +84,20 @@ fn keep(
     hash: u32,
 ) -> Result<(), AllocError>
     requires right { AreRight job.found.now job.schedule.vehicle job.schedule.horizon shared.old.lists.items }
-    ensures right { OnOk result (AreRight job.found.now job.schedule.vehicle job.schedule.horizon shared.new.lists.items) }
+    ensures right { OnOk result (AreRight job.entry.found.now job.entry.schedule.vehicle job.entry.schedule.horizon
+        shared.new.lists.items) }
 {
     if !shared.places.is_seen_again(hash) {
         return Ok(());
     }
     let most = shared.places.room();
-    match spans_of(alloc, job, at, most)? {
-        Some(found) => {
-            let (list, count) = (shared.lists.len(), found.spans.spans().len());
-            shared.places.put(hash, list, count);
-            shared.lists.push(found)?;
-        }
-        None => shared.places.give_up(hash),
-    }
+    let Some(found) = spans_of(alloc, job, at, most)? else {
+        shared.places.give_up(hash);
+        return Ok(());
+    };
+    let (list, count) = (shared.lists.len(), found.spans.spans().len());
+    shared.places.put(hash, list, count);
+    shared.lists.push(found)?;
     Ok(())
 }
 
@@ -109,23 +109,24 @@ fn keep_both(
     element: u64,
 ) -> Result<(), AllocError>
     requires right { AreRight job.found.now job.schedule.vehicle job.schedule.horizon shared.old.lists.items }
-    ensures right { OnOk result (AreRight job.found.now job.schedule.vehicle job.schedule.horizon shared.new.lists.items) }
+    ensures right { OnOk result (AreRight job.entry.found.now job.entry.schedule.vehicle job.entry.schedule.horizon
+        shared.new.lists.items) }
 {
     let (positive, negative) = directions_of(element);
     let hash = hash_of_closing(job.found, positive, job.schedule.vehicle);
     let other = hash_of_closing(job.found, negative, job.schedule.vehicle);
     keep(alloc, job, shared, positive, hash)?;
-    if other != hash {
-        keep(alloc, job, shared, negative, other)?;
+    if other == hash {
+        return Ok(());
     }
-    Ok(())
+    keep(alloc, job, shared, negative, other)
 }
 
 /// Spans of those elements that rows with the same domains close as an earlier one. `AllocError` is answered only if memory was
 /// refused.
 pub(crate) fn shared_spans(alloc: Global, job: Job<'_>) -> Result<Shared, AllocError>
     ensures right { IfOk result
-        (λ shared. AreRight job.found.now job.schedule.vehicle job.schedule.horizon shared.lists.items) }
+        (λ shared. AreRight job.entry.found.now job.entry.schedule.vehicle job.entry.schedule.horizon shared.lists.items) }
 {
     let elements = job.found.elements();
     let count = elements.len().saturating_mul(2);
@@ -161,7 +162,7 @@ pub(crate) fn own_spans(
     element: u64,
 ) -> Result<Option<Shared>, AllocError>
     ensures right { IfOk result (λ found. IfSome found
-        (λ own. AreRight job.found.now job.schedule.vehicle job.schedule.horizon own.lists.items)) }
+        (λ own. AreRight job.entry.found.now job.entry.schedule.vehicle job.entry.schedule.horizon own.lists.items)) }
 {
     let (positive, negative) = directions_of(element);
     let hash = hash_of_closing(job.found, positive, job.schedule.vehicle);
@@ -171,10 +172,11 @@ pub(crate) fn own_spans(
     {
         return Ok(None);
     }
-    match spans_of(alloc, job, positive, MOST_OF_AN_ELEMENT)? {
-        Some(known) => Ok(Some(spans_of_one(alloc, hash, known)?)),
-        None => Ok(None),
-    }
+    let Some(known) = spans_of(alloc, job, positive, MOST_OF_AN_ELEMENT)? else {
+        return Ok(None);
+    };
+    let own = spans_of_one(alloc, hash, known)?;
+    Ok(Some(own))
 }
 
 /// The spans in which the element is open in its direction, if those of one that rows with the same domains close are kept.
@@ -185,7 +187,7 @@ pub(crate) fn spans_for<'a>(
 ) -> Option<&'a SpanList>
     requires right { AreRight job.found.now job.schedule.vehicle job.schedule.horizon shared.now.lists.items }
     ensures right { IfSome result (λ spans. IsNormalOver
-        (IsOpen job.found.now at.element at.direction job.schedule.vehicle) job.schedule.horizon spans.now) }
+        (IsOpen job.entry.found.now at.element at.direction job.entry.schedule.vehicle) job.entry.schedule.horizon spans.now) }
 {
     let hash = hash_of_closing(job.found, at, job.schedule.vehicle);
     let list = shared.places.list_of(hash)?;

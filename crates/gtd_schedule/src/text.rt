@@ -3,6 +3,7 @@
 ghost use Rattle.std.proofs.Props.{props};
 ghost use Rattle.gtd_schedule.specs.Schedule.{AreLines};
 ghost use Rattle.gtd_schedule.specs.Shared.{AreRight};
+ghost use Rattle.gtd_spans.specs.facts.FitsProp.{IsNormal-prop};
 
 use crate::elements::{ScheduleLines, put_direction_spans};
 use crate::shared::{Job, Shared, own_spans, spans_for};
@@ -17,7 +18,7 @@ pub(crate) struct ScheduleText<'a> {
     pub(crate) found: &'a Records,
     pub(crate) shared: &'a Shared,
     ghost right: { AreRight found.now lines.now.schedule.vehicle lines.now.schedule.horizon
-        shared.now.lists.items } by { Prim.hlevel props },
+        shared.now.lists.items } by { Prim.hlevel (props, IsNormal-prop) },
 }
 
 impl DirectionLines for ScheduleText<'_> {
@@ -69,16 +70,14 @@ impl ElementLines for ScheduleText<'_> {
             found: self.found,
             schedule: self.lines.schedule,
         };
-        match own_spans(printer.alloc, job, self.shared, element)? {
-            Some(own) => {
-                let text = ScheduleText {
-                    lines: self.lines,
-                    found: self.found,
-                    shared: &own,
-                };
-                put_both(output, printer, found, element, &text)
-            }
-            None => put_both(output, printer, found, element, self),
-        }
+        let Some(own) = own_spans(printer.alloc, job, self.shared, element)? else {
+            return put_both(output, printer, found, element, self);
+        };
+        let text = ScheduleText {
+            lines: self.lines,
+            found: self.found,
+            shared: &own,
+        };
+        put_both(output, printer, found, element, &text)
     }
 }

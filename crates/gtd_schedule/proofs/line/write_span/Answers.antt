@@ -1,12 +1,6 @@
-use Rattle.std.proofs.Common.{◌≡◌, ◌∙◌, sym, ap, refl, arith, ℕ, ℤ, List, [], ◌∷◌, ◌++◌, length, length-append, take, drop}
+use Rattle.std.proofs.Common.{◌≡◌, ◌∙◌, sym, ap, refl, arith, ℕ, List, ◌++◌, length, length-append, take, drop}
 use Rattle.std.proofs.lemmas.List.{take_at, take-append-drop}
-use Rattle.gtd_calendar.specs.Stamp.{clock_text, stamp_text}
-use Rattle.gtd_core.specs.Seconds.{day_of_second}
 use Rattle.gtd_schedule.specs.Lines.{span_text}
-use Rattle.gtd_schedule.specs.Months.{IsDated}
-use Rattle.gtd_schedule.specs.Moments.{AreMoments, IsKeptOf, IsShown}
-use Rattle.gtd_schedule.specs.declared.moment.Shown.{Shown}
-use Rattle.gtd_schedule.specs.declared.line.ShownSpan.{ShownSpan}
 use Rattle.gtd_schedule.proofs.MomentParts.{dated, from_is, from_shown, until_is, until_shown}
 use Rattle.gtd_schedule.proofs.line.write_span.Goals as goal
 

@@ -1,5 +1,4 @@
 -- The table has the two decimal digits of each number below 100 at its place.
-use Rattle.std.proofs.Common.{◌≡◌}
 use Rattle.gtd_schedule.proofs.Pairs.{pair_at}
 use Rattle.gtd_schedule.proofs.moment.digits_of.Goals as goal
 

@@ -5,8 +5,7 @@ use Rattle.gtd_calendar.specs.Clock.{second_of_day}
 use Rattle.gtd_calendar.specs.ComputedDates.{day_of_month}
 use Rattle.gtd_calendar.specs.facts.Signed.{signed_arith, one_part}
 use Rattle.gtd_core.specs.Seconds.{day_of_second}
-use Rattle.gtd_schedule.specs.Moments.{IsDayOfMonth, IsSomeMonth, first_second}
-use Rattle.gtd_schedule.specs.declared.moment.Month.{Month}
+use Rattle.gtd_schedule.specs.Moments.{first_second}
 use Rattle.gtd_schedule.proofs.MonthDays.{begins_in, few}
 use Rattle.gtd_schedule.proofs.moment.place_in_month.Goals as goal
 

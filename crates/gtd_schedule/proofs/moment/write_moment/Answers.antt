@@ -1,4 +1,4 @@
-use Rattle.std.proofs.Common.{rules, arith, ap, ◌≡◌, ◌∙◌, ◌++◌, ◌<◌, ℤ, ℕ, List, drop, pos}
+use Rattle.std.proofs.Common.{arith, ap, ◌≡◌, ◌∙◌, ◌++◌, ◌<◌, ℤ, ℕ, List, drop, pos}
 use Rattle.gtd_calendar.specs.Clock.{second_of_day}
 use Rattle.gtd_calendar.specs.Stamp.{clock_text, date_text, stamp_text}
 use Rattle.gtd_calendar.specs.facts.Signed.{signed_arith, one_part}

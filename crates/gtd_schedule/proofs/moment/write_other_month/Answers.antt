@@ -1,4 +1,4 @@
-use Rattle.std.proofs.Common.{ap, ◌≡◌, ◌∙◌, ◌++◌, ℤ, ℕ, List, take, drop, sym, refl, unsigned_abs}
+use Rattle.std.proofs.Common.{ap, ◌≡◌, ◌∙◌, ◌++◌, ℤ, ℕ, List, take, drop, sym, unsigned_abs}
 use Rattle.std.proofs.lemmas.List.{drop-drop}
 use Rattle.gtd_calendar.specs.ComputedDates.{year_of, month_of}
 use Rattle.gtd_calendar.specs.Stamp.{date_text, two_digits, ymd_text}

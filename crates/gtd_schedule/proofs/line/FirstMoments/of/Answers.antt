@@ -1,6 +1,4 @@
 -- The text begins with the moments of second 0, over which those of the given second are written.
-use Rattle.std.proofs.Common.{◌≡◌, ◌∙◌, refl, ap, List, ℕ, take, drop}
-use Rattle.std.specs.Prelude.{codes}
 use Rattle.gtd_schedule.proofs.FirstMoments.{are_first, shown_first}
 use Rattle.gtd_schedule.proofs.MomentParts.{dated, from_shown, until_shown}
 use Rattle.gtd_schedule.proofs.line.FirstMoments.of.Goals as goal
