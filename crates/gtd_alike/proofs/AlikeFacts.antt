@@ -1,5 +1,5 @@
 -- What is answered of elements that are like earlier ones.
-use Rattle.std.proofs.Common.{◌≡◌, ◌<◌, ◌≤◌, refl, subst, sym, arith, inl, inr, ℕ, List, length, get_or}
+use Rattle.std.proofs.Common.{◌≡◌, ◌<◌, ◌≤◌, subst, sym, arith, inl, inr, ℕ, List, length, get_or}
 use Rattle.gtd_records.specs.Closing.{Restriction}
 use Rattle.gtd_records.specs.declared.direction.DirectedElement.{DirectedElement}
 use Rattle.gtd_alike.specs.Alike.{AreFirstAlike, AreOpenAlike, asked_at}
