@@ -278,6 +278,8 @@ def states(folder):
     yield desk(f"65,536 elements of {never}", ["faults", "--warn", folder.elements("warned", [never] * MOST_ROWS)])
     dated = never.replace("M2", "y2096M2")
     yield desk(f"65,536 elements of {dated}", ["faults", "--warn", folder.elements("warned_year", [dated] * MOST_ROWS)])
+    yield desk(f"65,536 elements of {dated}, over or not",
+               ["faults", "--warn", "--at", DAY[0], folder.elements("warned_day", [dated] * MOST_ROWS)])
     hands = [(n // 16, n % 16) for n in range(MOST_ROWS)]
     text = HEADER + "".join(f"{element},both,0,(M5d1h{row}){{h1}}+(h{row}){{h1}}\n" for element, row in hands)
     yield desk("4,096 elements of 16 rows that hand over to one another",

@@ -319,7 +319,8 @@ def random_file(rng):
     listed = rng.sample(["0", "11", "12", "11;12", "!11", "!31", "1;2;31", "99", "!12;99"], rng.randint(1, 5))
     rows = []
     for _ in range(rng.choice([0, 1, 3, 12, NEEDED - 1, NEEDED, NEEDED + 3])):
-        rows.append(("7", "both", rng.choice(listed), rng.choice(["", random_text(rng)])))
+        again = rows and rng.random() < 0.4
+        rows.append(("7", "both", rng.choice(listed), rng.choice(rows)[3] if again else rng.choice(["", random_text(rng)])))
     return rows
 
 

@@ -21,7 +21,7 @@ use crate::snippet::Snippet;
 use gtd_mistakes::{Rule, Told};
 use gtd_records::{Record, RecordFault, Version};
 use gtd_warnings::{
-    Asked, DoubtText, PerhapsLine, codes_listed, is_off, told_of_read, types_of_row,
+    Asked, DoubtText, KnownDomains, PerhapsLine, codes_listed, is_off, told_of_read, types_of_row,
 };
 use std::alloc::{AllocError, Global};
 
@@ -78,6 +78,7 @@ pub(crate) struct DoubtLines<'a> {
     alloc: Global,
     path: &'a str,
     asked: &'a Asked,
+    known: KnownDomains,
     // How many rows name a vehicle code, of no more than must.
     naming: usize,
     by_code: Vec<Naming>,
@@ -97,6 +98,7 @@ impl<'a> DoubtLines<'a> {
             alloc,
             path,
             asked,
+            known: KnownDomains::new(alloc),
             naming: 0,
             by_code: none_named(alloc)?,
             text: String::new(alloc),
@@ -116,7 +118,7 @@ impl<'a> DoubtLines<'a> {
             → AreDoubted path asked bytes version rows self.old
             → OnOk result (AreDoubted path asked bytes version (rows ++ fields_of row.now.fields.now ∷ []) self.new) }
     {
-        let told = told_of_read(self.alloc, self.asked, row.number, row.fields, read)?;
+        let told = told_of_read(&mut self.known, self.asked, row.number, row.fields, read)?;
         push_told(&mut self.text, self.path, row, told.as_slice())?;
         let types = types_of_row(self.alloc, version, row.fields)?;
         let codes = codes_listed(&types);

@@ -5,3 +5,4 @@ pub mod Naming
 pub mod RowsTold
 pub mod Sentences
 pub mod Vehicles
+pub mod Whole

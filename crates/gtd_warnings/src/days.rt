@@ -5,6 +5,7 @@ ghost use Rattle.gtd_core.specs.Parts.{domain_tree};
 ghost use Rattle.gtd_core.specs.declared.horizon.Horizon.{Horizon};
 ghost use Rattle.gtd_mistakes.specs.declared.rule.Rule.{Rule};
 ghost use Rattle.gtd_warnings.specs.Days.{AreDaysFrom, HoldsNever, HoldsOn, IsLater};
+ghost use Rattle.gtd_warnings.specs.RowsTold.{IsOnDay};
 
 use gtd_core::limits::HORIZONS_END;
 use gtd_core::{Domain, Horizon};
@@ -57,12 +58,8 @@ fn later(days: Horizon) -> Option<Horizon>
     }
 }
 
-/// The rule that holds of a domain on the first of these days: `Past` or `EndsSoon`, if one does.
-pub(crate) fn rule_on(
-    alloc: Global,
-    domain: &Domain,
-    days: Horizon,
-) -> Result<Option<Rule>, AllocError>
+// The rule that holds of a domain on the first of these days: `Past` or `EndsSoon`, if one does.
+fn rule_on(alloc: Global, domain: &Domain, days: Horizon) -> Result<Option<Rule>, AllocError>
     ensures { IfOk result (λ found. MatchOption found
         ((rule : Rule) → HoldsOn rule days (domain_tree domain.now) → ⊥)
         (λ rule. HoldsOn rule days (domain_tree domain.now))) }
@@ -77,4 +74,19 @@ pub(crate) fn rule_on(
         return Ok(Some(Rule::EndsSoon));
     }
     Ok(None)
+}
+
+/// The rule that holds of a domain on the first of these days, if some are given and one does.
+pub(crate) fn rule_on_given(
+    alloc: Global,
+    domain: &Domain,
+    days: Option<Horizon>,
+) -> Result<Option<Rule>, AllocError>
+    ensures { IfOk result (λ found. MatchOption found
+        ((rule : Rule) → IsOnDay days (domain_tree domain.now) rule → ⊥) (IsOnDay days (domain_tree domain.now))) }
+{
+    match days {
+        Some(days) => rule_on(alloc, domain, days),
+        None => Ok(None),
+    }
 }

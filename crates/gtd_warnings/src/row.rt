@@ -1,6 +1,6 @@
 //! What is told of a row.
 
-ghost use Rattle.std.specs.Prelude.{◌≡◌, ◌++◌, ◌↔◌, List, Ok, Err, IfOk, IsTrue, MatchOption, OnOk, Some, option_map};
+ghost use Rattle.std.specs.Prelude.{◌≡◌, ◌++◌, ◌↔◌, List, Ok, Err, IfOk, IsTrue, OnOk, Some, option_map};
 ghost use Rattle.std.specs.List.{All, Contains};
 ghost use Rattle.csv.specs.Records.{fields_of};
 ghost use Rattle.gtd_core.specs.Parts.{domain_tree};
@@ -8,13 +8,12 @@ ghost use Rattle.gtd_mistakes.specs.declared.rule.Rule.{Rule};
 ghost use Rattle.gtd_mistakes.specs.declared.told.Told.{Told};
 ghost use Rattle.gtd_records.specs.ComputedRow.{IsRow};
 ghost use Rattle.gtd_records.specs.declared.vehicles.Version.{Version};
-ghost use Rattle.gtd_warnings.specs.RowsTold.{AreToldOfRow, AreToldOnce, IsDomainOf, IsOnDay, IsToldOfRow};
+ghost use Rattle.gtd_warnings.specs.RowsTold.{AreToldOfRow, AreToldOnce, IsDomainOf, IsToldOfRow};
 
-use crate::days::rule_on;
-use crate::extents::rule_throughout;
 use crate::file::Asked;
+use crate::known::KnownDomains;
 use csv::ByteRecord;
-use gtd_core::{Domain, Fault, Horizon};
+use gtd_core::{Domain, Fault};
 use gtd_mistakes::{Rule, Told, first_part, push_told};
 use gtd_records::{Record, RecordFault, four_columns};
 use gtd_text::read_domain;
@@ -43,21 +42,6 @@ pub fn is_off(off: &[Rule], rule: Rule) -> bool
     off.contains(&rule)
 }
 
-// The rule that holds of a domain on the first of these days, if some are given and one does.
-fn rule_on_given(
-    alloc: Global,
-    domain: &Domain,
-    days: Option<Horizon>,
-) -> Result<Option<Rule>, AllocError>
-    ensures { IfOk result (λ found. MatchOption found
-        ((rule : Rule) → IsOnDay days (domain_tree domain.now) rule → ⊥) (IsOnDay days (domain_tree domain.now))) }
-{
-    match days {
-        Some(days) => rule_on(alloc, domain, days),
-        None => Ok(None),
-    }
-}
-
 // Appends the rule that was found to hold of the domain of the row with this number, if one was and is not turned off.
 fn push_found(
     told: &mut Vec<Told>,
@@ -83,7 +67,7 @@ fn push_found(
 
 // Appends what is told of the row with this number and this domain.
 fn push_told_of(
-    alloc: Global,
+    known: &mut KnownDomains,
     told: &mut Vec<Told>,
     asked: &Asked,
     row: u32,
@@ -94,17 +78,16 @@ fn push_told_of(
 {
     let off = asked.off.as_slice();
     push_told(told, off, row, domain)?;
-    let throughout = rule_throughout(alloc, domain)?;
-    push_found(told, off, row, domain, throughout)?;
-    let on_day = rule_on_given(alloc, domain, asked.days)?;
-    push_found(told, off, row, domain, on_day)?;
+    let whole = known.rules_of(domain, asked.days)?;
+    push_found(told, off, row, domain, whole.throughout)?;
+    push_found(told, off, row, domain, whole.on_day)?;
     Ok(())
 }
 
 // What is told of the row with this number and this domain, in order: of the parts of the domain; whether that never or always
 // holds; and whether it is over.
 fn told_of_domain(
-    alloc: Global,
+    known: &mut KnownDomains,
     asked: &Asked,
     number: u32,
     domain: &Domain,
@@ -112,16 +95,16 @@ fn told_of_domain(
     ensures told { IfOk result (λ told. AreToldOfRow asked.now number (Some (domain_tree domain.now)) told.items) }
     ensures rows { IfOk result (λ told. All (λ one. one.row ≡ number) told.items) }
 {
-    let mut told = Vec::new(alloc);
-    push_told_of(alloc, &mut told, asked, number, domain)?;
+    let mut told = Vec::new(known.alloc);
+    push_told_of(known, &mut told, asked, number, domain)?;
     Ok(told)
 }
 
 /// What is told of the row with this number, in order: of the parts of its domain; whether that never or always holds; and
-/// whether it is over. A row counts if it has four fields and the last is a time domain, whatever the others hold.
-/// `AllocError` is answered only if memory was refused.
+/// whether it is over. A row counts if it has four fields and the last is a time domain, whatever the others hold. What holds of
+/// the domain as a whole is not found once more if it is known. `AllocError` is answered only if memory was refused.
 pub fn told_of_row(
-    alloc: Global,
+    known: &mut KnownDomains,
     asked: &Asked,
     number: u32,
     row: &ByteRecord,
@@ -129,15 +112,15 @@ pub fn told_of_row(
     ensures told { IfOk result (λ told. IsToldOfRow asked.now number (fields_of row.now) told.items) }
     ensures rows { IfOk result (λ told. All (λ one. one.row ≡ number) told.items) }
 {
-    match domain_of(alloc, row)? {
-        Some(domain) => told_of_domain(alloc, asked, number, &domain),
-        None => Ok(Vec::new(alloc)),
+    match domain_of(known.alloc, row)? {
+        Some(domain) => told_of_domain(known, asked, number, &domain),
+        None => Ok(Vec::new(known.alloc)),
     }
 }
 
 // The same of a row that stands for this record.
 fn told_of_record(
-    alloc: Global,
+    known: &mut KnownDomains,
     asked: &Asked,
     number: u32,
     row: &ByteRecord,
@@ -148,14 +131,14 @@ fn told_of_record(
     ensures rows { IfOk result (λ told. All (λ one. one.row ≡ number) told.items) }
 {
     match &found.domain {
-        Some(domain) => told_of_domain(alloc, asked, number, domain),
-        None => told_of_row(alloc, asked, number, row),
+        Some(domain) => told_of_domain(known, asked, number, domain),
+        None => told_of_row(known, asked, number, row),
     }
 }
 
 // The same of a row with this fault.
 fn told_of_faulty(
-    alloc: Global,
+    known: &mut KnownDomains,
     asked: &Asked,
     number: u32,
     row: &ByteRecord,
@@ -166,15 +149,15 @@ fn told_of_faulty(
     ensures rows { IfOk result (λ told. All (λ one. one.row ≡ number) told.items) }
 {
     match why {
-        RecordFault::Domain { .. } => Ok(Vec::new(alloc)),
-        _ => told_of_row(alloc, asked, number, row),
+        RecordFault::Domain { .. } => Ok(Vec::new(known.alloc)),
+        _ => told_of_row(known, asked, number, row),
     }
 }
 
 /// What is told of the row with this number, as [`told_of_row`] tells it, where the row was read as a record or its fault. The
 /// domain is not read once more if it was then. `AllocError` is answered only if memory was refused.
 pub fn told_of_read(
-    alloc: Global,
+    known: &mut KnownDomains,
     asked: &Asked,
     number: u32,
     row: &ByteRecord,
@@ -185,7 +168,7 @@ pub fn told_of_read(
     ensures rows { IfOk result (λ told. All (λ one. one.row ≡ number) told.items) }
 {
     match read {
-        Ok(found) => told_of_record(alloc, asked, number, row, found),
-        Err(why) => told_of_faulty(alloc, asked, number, row, *why),
+        Ok(found) => told_of_record(known, asked, number, row, found),
+        Err(why) => told_of_faulty(known, asked, number, row, *why),
     }
 }

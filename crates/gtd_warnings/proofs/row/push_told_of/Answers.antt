@@ -8,6 +8,8 @@ pub returns : goal.returns
 returns c =
     let tree = domain_tree c.args.domain.now in
     let off = c.args.asked.now.off.items in
+    let whole = c.in_ok-whole.whole in
+    let are = c.in_ok-whole.ensures in
     let first = rw c.as_slice-off.ensures.value at c.in_ok-push_told.ensures.told in
     let second = rw c.as_slice-off.ensures.value at c.in_ok-push_found.ensures in
     let third = rw c.as_slice-off.ensures.value at c.in_ok-push_found-2.ensures in (
@@ -17,8 +19,8 @@ returns c =
         second.0,
         third.0,
         first.1,
-        throughout c.args.row off tree c.in_ok-throughout.throughout c.in_ok-throughout.ensures second.0 second.1,
-        on_day c.args.row off tree c.args.asked.now.days c.in_ok-on_day.on_day c.in_ok-on_day.ensures third.0 third.1,
+        throughout c.args.row off tree whole.throughout are.throughout second.0 second.1,
+        on_day c.args.row off tree c.args.asked.now.days whole.on_day are.on_day third.0 third.1,
         refl,
       ),
       three_parts c.args.told.now.items _ _ _ first.0 second.0 third.0 first.2 second.2 third.2,

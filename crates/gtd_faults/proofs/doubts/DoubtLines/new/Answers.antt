@@ -8,7 +8,7 @@ returns c = λ bytes version. record {
   is_asked = refl;
   told = [];
   each = refl;
-  text = c.new.ensures.bytes;
+  text = c.new-2.ensures.bytes;
   kept = c.in_ok-none_named.ensures c.args.path.now bytes;
   counted = refl;
 }
