@@ -1,3 +1,4 @@
+pub mod Alike
 pub mod Flags
 pub mod Groups
 pub mod Listings

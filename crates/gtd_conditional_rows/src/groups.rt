@@ -1,13 +1,15 @@
 //! The vehicle types of steps, grouped by when they are closed.
 
-ghost use Rattle.std.specs.Prelude.{◌≡◌, ◌+◌, ◌↔◌, ℕ, IfOk, IsTrue, OnOk, if◌then◌else◌};
+ghost use Rattle.std.specs.Prelude.{◌≡◌, ◌+◌, ◌<◌, ◌↔◌, ℕ, IfOk, IsTrue, OnOk, if◌then◌else◌};
 ghost use Rattle.gtd_records.specs.declared.direction.Closed.TheVariants.{One, Both};
+ghost use Rattle.gtd_conditional_rows.specs.Alike.{AreAlike};
 ghost use Rattle.gtd_conditional_rows.specs.Groups.{GroupedTo, IsGroupOf, IsMarked};
 ghost use Rattle.gtd_conditional_rows.specs.Rows.{AreGroups, Each, Some'};
 ghost use Rattle.gtd_conditional_rows.specs.Times.{NeedsTooMany, times_of};
 ghost use Rattle.gtd_conditional_rows.specs.Timing.{domain_times};
-ghost use Rattle.gtd_conditional_rows.specs.Types.{HasType, IsVehicle, has_type};
+ghost use Rattle.gtd_conditional_rows.specs.Types.{HasType, IsVehicle};
 
+use crate::alike::Alike;
 use crate::row::{Row, is_listed, is_same_domain};
 use crate::step::Step;
 use crate::times::{Timing, timing_of};
@@ -16,25 +18,13 @@ use gtd_core::Domain;
 use gtd_records::{Closed, Direction};
 use std::alloc::{AllocError, Global};
 
-// Whether a step speaks of both vehicle types or of neither.
-fn speaks_alike(step: &Step, vehicle: u8, other: u8) -> bool
-    ensures { IsTrue result ↔ (has_type step.now.types vehicle ≡ has_type step.now.types other) }
-{
-    step.types.has(vehicle) == step.types.has(other)
-}
-
-// Whether each step speaks of both vehicle types or of neither.
-fn have_same_steps(steps: &[Step], vehicle: u8, other: u8) -> bool
-    ensures { IsTrue result → times_of steps.now other ≡ times_of steps.now vehicle }
-{
-    let mut rest = steps;
-    while let Some((step, more)) = rest.split_first() {
-        if !speaks_alike(step, vehicle, other) {
-            return false;
-        }
-        rest = more;
-    }
-    true
+/// Steps in a direction, the vehicle types that are alike in them, and the rows of the other direction, if they are known.
+#[derive(Clone, Copy)]
+pub(crate) struct Side<'a> {
+    pub(crate) steps: &'a [Step],
+    pub(crate) alike: &'a Alike,
+    pub(crate) direction: Direction,
+    pub(crate) others: &'a [Row],
 }
 
 // Whether steps close an element for a vehicle type exactly at the seconds of a domain.
@@ -54,52 +44,42 @@ fn is_timing(
     }
 }
 
-// Whether steps close an element for another vehicle type exactly at the seconds of a domain, which are those of the first.
-fn is_alike(
+// Whether steps close an element for a vehicle type exactly at the seconds of a domain, where the lower types are known for which
+// they do.
+fn is_like(
     alloc: Global,
-    steps: &[Step],
+    side: Side,
+    types: &Types,
     vehicle: u8,
-    other: u8,
     domain: &Option<Domain>,
 ) -> Result<bool, AllocError>
-    requires other { IsVehicle other }
-    requires few { NeedsTooMany steps.now → ⊥ }
-    requires own { times_of steps.now vehicle ≡ domain_times domain.now }
-    ensures { IfOk result (λ r. IsTrue r ↔ (times_of steps.now other ≡ domain_times domain.now)) }
+    requires vehicle { IsVehicle vehicle }
+    requires few { NeedsTooMany side.steps.now → ⊥ }
+    requires alike { AreAlike side.steps.now side.alike.now }
+    requires lower { (t : ℕ) → IsVehicle t → t < vehicle
+        → HasType types.now t ↔ (times_of side.steps.now t ≡ domain_times domain.now) }
+    ensures { IfOk result (λ r. IsTrue r ↔ (times_of side.entry.steps.now vehicle ≡ domain_times domain.now)) }
 {
-    if have_same_steps(steps, vehicle, other) {
-        return Ok(true);
+    match side.alike.lower(vehicle) {
+        Some(lower) => Ok(types.has(lower)),
+        None => is_timing(alloc, side.steps, vehicle, domain),
     }
-    is_timing(alloc, steps, other, domain)
 }
 
-// The vehicle types for which steps close an element exactly at the seconds of a domain, which are those of one of them.
-fn types_like(
-    alloc: Global,
-    steps: &[Step],
-    vehicle: u8,
-    domain: &Option<Domain>,
-) -> Result<Types, AllocError>
-    requires few { NeedsTooMany steps.now → ⊥ }
-    requires own { times_of steps.now vehicle ≡ domain_times domain.now }
+// The vehicle types for which steps close an element exactly at the seconds of a domain.
+fn types_like(alloc: Global, side: Side, domain: &Option<Domain>) -> Result<Types, AllocError>
+    requires few { NeedsTooMany side.steps.now → ⊥ }
+    requires alike { AreAlike side.steps.now side.alike.now }
     ensures { IfOk result (λ types. (t : ℕ) → IsVehicle t
-        → HasType types t ↔ (times_of steps.now t ≡ domain_times domain.now)) }
+        → HasType types t ↔ (times_of side.entry.steps.now t ≡ domain_times domain.now)) }
 {
     let mut types = Types::none();
     for other in 1..100 {
-        if is_alike(alloc, steps, vehicle, other, domain)? {
+        if is_like(alloc, side, &types, other, domain)? {
             types.add(other);
         }
     }
     Ok(types)
-}
-
-/// Steps in a direction, and the rows of the other direction, if they are known.
-#[derive(Clone, Copy)]
-pub(crate) struct Side<'a> {
-    pub(crate) steps: &'a [Step],
-    pub(crate) direction: Direction,
-    pub(crate) others: &'a [Row],
 }
 
 // What a row closes that the other direction has too, or has not.
@@ -117,12 +97,13 @@ fn closed_of(direction: Direction, listed: bool) -> Closed
 fn group_of(alloc: Global, side: Side, vehicle: u8) -> Result<Option<Row>, AllocError>
     requires vehicle { IsVehicle vehicle }
     requires few { NeedsTooMany side.steps.now → ⊥ }
+    requires alike { AreAlike side.steps.now side.alike.now }
     ensures { IfOk result (IsGroupOf side.entry.steps.now side.entry.direction side.entry.others.now vehicle) }
 {
     match timing_of(alloc, side.steps, vehicle)? {
         Timing::Never => Ok(None),
         Timing::Closed(domain) => {
-            let types = types_like(alloc, side.steps, vehicle, &domain)?;
+            let types = types_like(alloc, side, &domain)?;
             let mut row = Row {
                 closed: Closed::One(side.direction),
                 types,
@@ -153,10 +134,14 @@ fn is_grouped(rows: &[Row], vehicle: u8) -> bool
 fn put_group(alloc: Global, rows: &mut Vec<Row>, side: Side, vehicle: u8) -> Result<(), AllocError>
     requires vehicle { IsVehicle vehicle }
     requires few { NeedsTooMany side.steps.now → ⊥ }
+    requires alike { AreAlike side.steps.now side.alike.now }
     ensures { GroupedTo side.entry.steps.now side.entry.direction side.entry.others.now vehicle rows.old.items
         → OnOk result (GroupedTo side.entry.steps.now side.entry.direction side.entry.others.now (vehicle + 1)
         rows.new.items) }
 {
+    if let Some(_) = side.alike.lower(vehicle) {
+        return Ok(());
+    }
     if is_grouped(rows.as_slice(), vehicle) {
         return Ok(());
     }
@@ -172,6 +157,7 @@ fn put_group(alloc: Global, rows: &mut Vec<Row>, side: Side, vehicle: u8) -> Res
 /// The rows of steps in a direction, which close both if the other direction has the same.
 pub(crate) fn groups_of(alloc: Global, side: Side) -> Result<Vec<Row>, AllocError>
     requires few { NeedsTooMany side.steps.now → ⊥ }
+    requires alike { AreAlike side.steps.now side.alike.now }
     ensures groups { IfOk result (λ rows. AreGroups side.entry.steps.now rows.items) }
     ensures closed { IfOk result (λ rows. Each (IsMarked side.entry.direction side.entry.others.now) rows.items) }
 {

@@ -14,6 +14,7 @@ pub use step::Step;
 pub use types::Types;
 pub use vehicles::types_of;
 
+mod alike;
 mod count;
 mod expr;
 mod fault;
