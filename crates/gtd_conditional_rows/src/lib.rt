@@ -20,6 +20,7 @@ mod expr;
 mod fault;
 mod flags;
 mod groups;
+mod kept;
 mod listing;
 mod row;
 mod rows;

@@ -12,7 +12,7 @@ ghost use Rattle.gtd_conditional_rows.specs.Types.{HasType, IsVehicle};
 use crate::alike::{Alike, alike_in};
 use crate::count::need_too_many;
 use crate::fault::RowsFault;
-use crate::groups::{Side, groups_of};
+use crate::groups::groups_in;
 use crate::row::{Row, is_listed};
 use crate::step::Step;
 use gtd_records::Direction;
@@ -45,23 +45,13 @@ fn joined(
     requires back { AreAlike negative.now back.now }
     ensures { IfOk result (λ rows. AreRows positive.now negative.now rows.items) }
 {
-    let backward = groups_of(
+    let backward = groups_in(alloc, negative, back, Direction::Negative, &[])?;
+    let mut rows = groups_in(
         alloc,
-        Side {
-            steps: negative,
-            alike: back,
-            direction: Direction::Negative,
-            others: &[],
-        },
-    )?;
-    let mut rows = groups_of(
-        alloc,
-        Side {
-            steps: positive,
-            alike: ahead,
-            direction: Direction::Positive,
-            others: backward.as_slice(),
-        },
+        positive,
+        ahead,
+        Direction::Positive,
+        backward.as_slice(),
     )?;
     put_unlisted(&mut rows, backward)?;
     Ok(rows)

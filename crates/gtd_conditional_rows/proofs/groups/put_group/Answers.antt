@@ -1,17 +1,14 @@
 -- One type more: a lower one is alike, it is never closed, some row has it, or its row is put.
-use Rattle.std.proofs.Common.{◌≡◌, ◌∙◌, ap, sym, true, false, ℕ}
-use Rattle.gtd_conditional_rows.specs.Times.{times_of}
+use Rattle.std.proofs.Common.{◌≡◌, ◌∙◌, sym, true, false}
 use Rattle.gtd_conditional_rows.proofs.GroupLemmas.{grows, some-alike, stays}
 use Rattle.gtd_conditional_rows.proofs.groups.put_group.Goals as goal
 
 pub returns-in-Some : goal.returns-in-Some
 returns-in-Some c g =
     let low = c.in-Some.ensures in
-    let steps = c.args.side.steps.now in
-    let same = ap (λ (t : ℕ). times_of steps t) low.2 ∙ c.requires.alike c.args.vehicle c.requires.vehicle in
     stays _ _ _ _ _ g
-    (λ ever. some-alike steps _ _ _ low.0 c.requires.vehicle same g.each
-    (g.all _ low.0 low.1 (λ never. ever (sym same ∙ never))))
+    (λ ever. some-alike c.args.side.steps.now _ _ _ low.0 c.requires.vehicle low.2 g.each
+    (g.all _ low.0 low.1 (λ never. ever (sym low.2 ∙ never))))
 
 pub returns-then-is_grouped : goal.returns-then-is_grouped
 returns-then-is_grouped c g =
