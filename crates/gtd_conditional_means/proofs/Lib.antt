@@ -1,3 +1,4 @@
 pub mod TableFacts
 pub mod RowFacts
 pub mod MeaningFacts
+pub mod PlaceFacts

@@ -1,5 +1,6 @@
 pub mod Comparisons
 pub mod Meanings
+pub mod Places
 pub mod FaultTexts
 pub mod Names
 pub mod Rows

@@ -1,5 +1,5 @@
 -- What a name stands for, by the rows of a table.
-use Rattle.std.specs.Prelude.{ℕ, Bool, ◌&&◌, ◌||◌, false, true, if◌then◌else◌, List, [], ◌∷◌, codes, Option, Some, None}
+use Rattle.std.specs.Prelude.{ℕ, ◌+◌, Bool, ◌&&◌, ◌||◌, false, true, if◌then◌else◌, List, [], ◌∷◌, codes, Option, Some, None}
 use Rattle.std.specs.Option.{option_or}
 use Rattle.gtd_records.specs.Columns.{is_word}
 use Rattle.gtd_records.specs.declared.vehicles.Vehicles.{Vehicles}
@@ -34,6 +34,11 @@ is_row_of kind name row = is_of_kind kind row.meaning && is_word row.name.items 
 abbrev pub meaning_of : MeansKind → List ℕ → List MeansRow → Option Meaning
 meaning_of kind name [] = None
 meaning_of kind name (row ∷ rows) = if is_row_of kind name row then Some row.meaning else meaning_of kind name rows
+
+-- how many rows come before that row, if so many come before these
+abbrev pub place_of : ℕ → MeansKind → List ℕ → List MeansRow → Option ℕ
+place_of count kind name [] = None
+place_of count kind name (row ∷ rows) = if is_row_of kind name row then Some count else place_of (count + 1) kind name rows
 
 -- the vehicle types that a row says
 abbrev pub types_said : Option Meaning → Option Vehicles

@@ -8,7 +8,8 @@
 pub use comparison::normal_form;
 pub use fault::{MeansFault, MeansFaultText};
 pub use meaning::{Access, Meaning, MeansKind, MeansRow};
-pub use means::{Means, Unread, read_means};
+pub use means::{Means, Unread};
+pub use reader::read_means;
 pub use words::is_lower_word;
 
 mod comparison;
@@ -16,6 +17,8 @@ mod fault;
 mod fields;
 mod meaning;
 mod means;
+mod places;
+mod reader;
 mod rows;
 mod table;
 mod words;

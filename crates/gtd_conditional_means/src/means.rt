@@ -1,14 +1,15 @@
 //! A table of means, and what it says of names.
 
-ghost use Rattle.std.specs.Prelude.{◌≡◌, None, Some, MatchOption};
+ghost use Rattle.std.specs.Prelude.{◌≡◌, None, Some, IfOk, MatchOption};
+ghost use Rattle.std.proofs.Props.{props};
 ghost use Rattle.gtd_conditional_means.specs.Meanings as spec;
 ghost use Rattle.gtd_conditional_means.specs.Names.{is_there};
-ghost use Rattle.gtd_conditional_means.specs.Reading.{IsRead};
+ghost use Rattle.gtd_conditional_means.specs.Places.{AreOf};
 ghost use Rattle.gtd_conditional_means.specs.declared.meaning.MeansKind.{MeansKind};
 
 use crate::fault::MeansFault;
 use crate::meaning::{Access, Meaning, MeansKind, MeansRow};
-use crate::table::read_rows;
+use crate::places::Places;
 use gtd_records::Vehicles;
 use std::alloc::{AllocError, Global};
 
@@ -17,6 +18,9 @@ use std::alloc::{AllocError, Global};
 pub struct Means {
     /// The rows, the first of which is row 1.
     pub rows: Vec<MeansRow>,
+    // Where names stand among them.
+    places: Places,
+    ghost placed: { AreOf rows.items places } by { Prim.hlevel props },
 }
 
 /// Why a table of means is not read.
@@ -39,8 +43,8 @@ impl From<AllocError> for Unread {
     }
 }
 
-// Whether a meaning is of a kind.
-fn is_of_kind(kind: MeansKind, meaning: &Meaning) -> bool
+/// Whether a meaning is of a kind.
+pub(crate) fn is_of_kind(kind: MeansKind, meaning: &Meaning) -> bool
     ensures { result ≡ spec.is_of_kind kind meaning.now }
 {
     match kind {
@@ -87,22 +91,6 @@ pub(crate) fn meaning_in<'a>(
     None
 }
 
-// The vehicle types that the first row of a kind and a name says.
-fn types_in<'a>(rows: &'a [MeansRow], kind: MeansKind, name: &[u8]) -> Option<&'a Vehicles>
-    ensures { MatchOption result (spec.types_of kind name.now rows.now ≡ None)
-        (λ types. spec.types_of kind name.now rows.now ≡ Some types.now) }
-{
-    let Some(meaning) = meaning_in(rows, kind, name) else {
-        return None;
-    };
-    match meaning {
-        Meaning::Mode(types) => Some(types),
-        Meaning::Condition(types) => Some(types),
-        Meaning::Value(_) => None,
-        Meaning::Ignore => None,
-    }
-}
-
 /// What a value of access says that no table needs.
 pub(crate) fn known_access(name: &[u8]) -> Option<Access>
     ensures { result ≡ spec.known_access name.now }
@@ -119,29 +107,58 @@ pub(crate) fn known_access(name: &[u8]) -> Option<Access>
     }
 }
 
-/// The table of means that a file's bytes are, or all its faults.
-///
-/// `TooLarge` and `Header` come alone. Otherwise each row that is at fault has its first one, `FieldCount`, `Kind`, `Vehicle`,
-/// `Name`, `Repeated` or `Value`, in the order of the rows, and `TooManyRows` comes after those of the first 4,096 rows. A row
-/// at fault stands for nothing, so that its name is not repeated by a later row. `NoMemory` is answered only if memory was
-/// refused.
-pub fn read_means(alloc: Global, bytes: &[u8]) -> Result<Means, Unread>
-    ensures table { IsRead bytes.now result }
-{
-    let found = read_rows(alloc, bytes)?;
-    if !found.faults.is_empty() {
-        return Err(Unread::Faults(found.faults));
-    }
-    Ok(Means { rows: found.rows })
-}
-
 impl Means {
+    /// The table of these rows. `AllocError` is answered only if memory was refused.
+    pub(crate) fn new(alloc: Global, rows: Vec<MeansRow>) -> Result<Means, AllocError>
+        ensures { IfOk result (λ means. means.rows.items ≡ rows.items) }
+    {
+        let places = Places::new(alloc, rows.as_slice())?;
+        Ok(Means { rows, places })
+    }
+
+    // What the first row of a kind and a name says.
+    fn meaning(&self, kind: MeansKind, name: &[u8]) -> Option<&Meaning>
+        ensures said { MatchOption result (spec.meaning_of kind name.now self.now.rows.items ≡ None)
+            (λ meaning. spec.meaning_of kind name.now self.now.rows.items ≡ Some meaning.now) }
+    {
+        let Some(place) = self.places.of(kind, name) else {
+            return None;
+        };
+        match self.rows.as_slice().get(place) {
+            Some(row) => Some(&row.meaning),
+            None => None,
+        }
+    }
+
+    // The vehicle types that the first row of a kind and a name says.
+    fn types(&self, kind: MeansKind, name: &[u8]) -> Option<&Vehicles>
+        ensures { MatchOption result (spec.types_of kind name.now self.now.rows.items ≡ None)
+            (λ types. spec.types_of kind name.now self.now.rows.items ≡ Some types.now) }
+    {
+        let Some(meaning) = self.meaning(kind, name) else {
+            return None;
+        };
+        match meaning {
+            Meaning::Mode(types) => Some(types),
+            Meaning::Condition(types) => Some(types),
+            Meaning::Value(_) => None,
+            Meaning::Ignore => None,
+        }
+    }
+
+    /// How many rows come before that of a mode of transport, or `None` if the table has no such mode. Takes no memory.
+    pub fn mode_place(&self, name: &[u8]) -> Option<usize>
+        ensures place { result ≡ spec.place_of 0 MeansKind.Mode name.now self.now.rows.items }
+    {
+        self.places.of(MeansKind::Mode, name)
+    }
+
     /// The vehicle types of a mode of transport, or `None` if the table has no such mode. Takes no memory.
     pub fn mode(&self, name: &[u8]) -> Option<&Vehicles>
         ensures types { MatchOption result (spec.types_of MeansKind.Mode name.now self.now.rows.items ≡ None)
             (λ types. spec.types_of MeansKind.Mode name.now self.now.rows.items ≡ Some types.now) }
     {
-        types_in(self.rows.as_slice(), MeansKind::Mode, name)
+        self.types(MeansKind::Mode, name)
     }
 
     /// The vehicle types for which a condition holds, by its word or its comparison in normal form, or `None` if the table has
@@ -150,7 +167,7 @@ impl Means {
         ensures types { MatchOption result (spec.types_of MeansKind.Condition name.now self.now.rows.items ≡ None)
             (λ types. spec.types_of MeansKind.Condition name.now self.now.rows.items ≡ Some types.now) }
     {
-        types_in(self.rows.as_slice(), MeansKind::Condition, name)
+        self.types(MeansKind::Condition, name)
     }
 
     /// What a value of access says: `no` closes, `yes`, `designated` and `permissive` open, and for others the table has a row;
@@ -161,7 +178,7 @@ impl Means {
         if let Some(access) = known_access(name) {
             return Some(access);
         }
-        match meaning_in(self.rows.as_slice(), MeansKind::Value, name) {
+        match self.meaning(MeansKind::Value, name) {
             Some(Meaning::Value(access)) => Some(*access),
             _ => None,
         }
@@ -171,6 +188,6 @@ impl Means {
     pub fn ignores(&self, name: &[u8]) -> bool
         ensures said { result ≡ is_there (spec.meaning_of MeansKind.Ignore name.now self.now.rows.items) }
     {
-        meaning_in(self.rows.as_slice(), MeansKind::Ignore, name).is_some()
+        self.meaning(MeansKind::Ignore, name).is_some()
     }
 }

@@ -1,5 +1,7 @@
+pub mod Alike
 pub mod Flags
 pub mod Groups
+pub mod Kept
 pub mod Listings
 pub mod Rows
 pub mod Steps

@@ -1,10 +1,13 @@
 //! How many basic domains a vehicle type needs, counted before memory is taken.
 
-ghost use Rattle.std.specs.Prelude.{◌≡◌, ◌↔◌, ◌<◌, IsTrue};
+ghost use Rattle.std.specs.Prelude.{◌≡◌, ◌↔◌, ◌<◌, ℕ, IsTrue};
 ghost use Rattle.gtd_core.specs.Limits.{most_basic_domains};
+ghost use Rattle.gtd_conditional_rows.specs.Alike.{AreAlike};
 ghost use Rattle.gtd_conditional_rows.specs.Times.{NeedsTooMany, leaves_in, size_after, size_by, size_said, times_of};
+ghost use Rattle.gtd_conditional_rows.specs.Types.{IsVehicle};
 ghost use Rattle.gtd_conditional_rows.specs.declared.count.Size.TheVariants as size;
 
+use crate::alike::{Alike, alike_in};
 use crate::expr::{leaves, sum};
 use crate::step::Step;
 use gtd_conditional_means::Access;
@@ -89,14 +92,36 @@ fn is_too_much(steps: &[Step], vehicle: u8) -> bool
     }
 }
 
-/// Whether some vehicle type needs more than 128 basic domains. No memory is taken.
-pub fn needs_too_many(steps: &[Step]) -> bool
-    ensures { IsTrue result ↔ NeedsTooMany steps.now }
+// Whether a vehicle type needs too many, if no lower one does.
+fn is_first_too_much(steps: &[Step], alike: &Alike, vehicle: u8) -> bool
+    requires vehicle { IsVehicle vehicle }
+    requires alike { AreAlike steps.now alike.now }
+    ensures much { IsTrue result → most_basic_domains < leaves_in (times_of steps.now vehicle) }
+    ensures first { ((t : ℕ) → IsVehicle t → t < vehicle → most_basic_domains < leaves_in (times_of steps.now t) → ⊥)
+        → most_basic_domains < leaves_in (times_of steps.now vehicle) → IsTrue result }
+{
+    match alike.lower(vehicle) {
+        Some(_) => false,
+        None => is_too_much(steps, vehicle),
+    }
+}
+
+/// Whether some vehicle type needs more than 128 basic domains, where these types are alike. No memory is taken.
+pub(crate) fn need_too_many(steps: &[Step], alike: &Alike) -> bool
+    requires alike { AreAlike steps.now alike.now }
+    ensures many { IsTrue result ↔ NeedsTooMany steps.now }
 {
     for vehicle in 1..100 {
-        if is_too_much(steps, vehicle) {
+        if is_first_too_much(steps, alike, vehicle) {
             return true;
         }
     }
     false
+}
+
+/// Whether some vehicle type needs more than 128 basic domains. No memory is taken.
+pub fn needs_too_many(steps: &[Step]) -> bool
+    ensures { IsTrue result ↔ NeedsTooMany steps.now }
+{
+    need_too_many(steps, &alike_in(steps))
 }

@@ -1,13 +1,17 @@
 //! The vehicle types of steps, grouped by when they are closed.
 
-ghost use Rattle.std.specs.Prelude.{◌≡◌, ◌+◌, ◌↔◌, ℕ, IfOk, IsTrue, OnOk, if◌then◌else◌};
+ghost use Rattle.std.specs.Prelude.{◌≡◌, ◌+◌, ◌<◌, ◌↔◌, ℕ, IfOk, IfSome, IsTrue, OnOk, if◌then◌else◌};
 ghost use Rattle.gtd_records.specs.declared.direction.Closed.TheVariants.{One, Both};
+ghost use Rattle.gtd_conditional_rows.specs.Alike.{AreAlike};
 ghost use Rattle.gtd_conditional_rows.specs.Groups.{GroupedTo, IsGroupOf, IsMarked};
+ghost use Rattle.gtd_conditional_rows.specs.Kept.{AreKept};
 ghost use Rattle.gtd_conditional_rows.specs.Rows.{AreGroups, Each, Some'};
 ghost use Rattle.gtd_conditional_rows.specs.Times.{NeedsTooMany, times_of};
-ghost use Rattle.gtd_conditional_rows.specs.Timing.{domain_times};
-ghost use Rattle.gtd_conditional_rows.specs.Types.{HasType, IsVehicle, has_type};
+ghost use Rattle.gtd_conditional_rows.specs.Timing.{domain_times, timing_times};
+ghost use Rattle.gtd_conditional_rows.specs.Types.{HasType, IsVehicle};
 
+use crate::alike::Alike;
+use crate::kept::{Kept, kept_timings};
 use crate::row::{Row, is_listed, is_same_domain};
 use crate::step::Step;
 use crate::times::{Timing, timing_of};
@@ -16,90 +20,52 @@ use gtd_core::Domain;
 use gtd_records::{Closed, Direction};
 use std::alloc::{AllocError, Global};
 
-// Whether a step speaks of both vehicle types or of neither.
-fn speaks_alike(step: &Step, vehicle: u8, other: u8) -> bool
-    ensures { IsTrue result ↔ (has_type step.now.types vehicle ≡ has_type step.now.types other) }
-{
-    step.types.has(vehicle) == step.types.has(other)
+// Steps in a direction, what is kept of each vehicle type, and the rows of the other direction, if they are known.
+#[derive(Clone, Copy)]
+struct Side<'a> {
+    steps: &'a [Step],
+    kept: &'a [Kept],
+    direction: Direction,
+    others: &'a [Row],
 }
 
-// Whether each step speaks of both vehicle types or of neither.
-fn have_same_steps(steps: &[Step], vehicle: u8, other: u8) -> bool
-    ensures { IsTrue result → times_of steps.now other ≡ times_of steps.now vehicle }
+// Whether these are the times of a domain.
+fn is_timing(timing: &Timing, domain: &Option<Domain>) -> bool
+    ensures { IsTrue result ↔ (timing_times timing.now ≡ domain_times domain.now) }
 {
-    let mut rest = steps;
-    while let Some((step, more)) = rest.split_first() {
-        if !speaks_alike(step, vehicle, other) {
-            return false;
-        }
-        rest = more;
+    match timing {
+        Timing::Never => false,
+        Timing::Closed(own) => is_same_domain(own, domain),
     }
-    true
 }
 
-// Whether steps close an element for a vehicle type exactly at the seconds of a domain.
-fn is_timing(
-    alloc: Global,
-    steps: &[Step],
-    vehicle: u8,
-    domain: &Option<Domain>,
-) -> Result<bool, AllocError>
+// Whether steps close an element for a vehicle type exactly at the seconds of a domain, where the lower types are known for which
+// they do.
+fn is_like(side: Side, types: &Types, vehicle: u8, domain: &Option<Domain>) -> bool
     requires vehicle { IsVehicle vehicle }
-    requires few { NeedsTooMany steps.now → ⊥ }
-    ensures { IfOk result (λ r. IsTrue r ↔ (times_of steps.now vehicle ≡ domain_times domain.now)) }
+    requires kept { AreKept side.steps.now side.kept.now }
+    requires lower { (t : ℕ) → IsVehicle t → t < vehicle
+        → HasType types.now t ↔ (times_of side.steps.now t ≡ domain_times domain.now) }
+    ensures { IsTrue result ↔ (times_of side.entry.steps.now vehicle ≡ domain_times domain.now) }
 {
-    match timing_of(alloc, steps, vehicle)? {
-        Timing::Never => Ok(false),
-        Timing::Closed(own) => Ok(is_same_domain(&own, domain)),
+    match &side.kept[usize::from(vehicle)] {
+        Kept::Own(timing) => is_timing(timing, domain),
+        Kept::As(lower) => types.has(*lower),
     }
 }
 
-// Whether steps close an element for another vehicle type exactly at the seconds of a domain, which are those of the first.
-fn is_alike(
-    alloc: Global,
-    steps: &[Step],
-    vehicle: u8,
-    other: u8,
-    domain: &Option<Domain>,
-) -> Result<bool, AllocError>
-    requires other { IsVehicle other }
-    requires few { NeedsTooMany steps.now → ⊥ }
-    requires own { times_of steps.now vehicle ≡ domain_times domain.now }
-    ensures { IfOk result (λ r. IsTrue r ↔ (times_of steps.now other ≡ domain_times domain.now)) }
-{
-    if have_same_steps(steps, vehicle, other) {
-        return Ok(true);
-    }
-    is_timing(alloc, steps, other, domain)
-}
-
-// The vehicle types for which steps close an element exactly at the seconds of a domain, which are those of one of them.
-fn types_like(
-    alloc: Global,
-    steps: &[Step],
-    vehicle: u8,
-    domain: &Option<Domain>,
-) -> Result<Types, AllocError>
-    requires few { NeedsTooMany steps.now → ⊥ }
-    requires own { times_of steps.now vehicle ≡ domain_times domain.now }
-    ensures { IfOk result (λ types. (t : ℕ) → IsVehicle t
-        → HasType types t ↔ (times_of steps.now t ≡ domain_times domain.now)) }
+// The vehicle types for which steps close an element exactly at the seconds of a domain.
+fn types_like(side: Side, domain: &Option<Domain>) -> Types
+    requires kept { AreKept side.steps.now side.kept.now }
+    ensures { (t : ℕ) → IsVehicle t → HasType result t ↔ (times_of side.entry.steps.now t ≡ domain_times domain.now) }
 {
     let mut types = Types::none();
     for other in 1..100 {
-        if is_alike(alloc, steps, vehicle, other, domain)? {
+        if is_like(side, &types, other, domain) {
             types.add(other);
         }
     }
-    Ok(types)
-}
-
-/// Steps in a direction, and the rows of the other direction, if they are known.
-#[derive(Clone, Copy)]
-pub(crate) struct Side<'a> {
-    pub(crate) steps: &'a [Step],
-    pub(crate) direction: Direction,
-    pub(crate) others: &'a [Row],
+    types
 }
 
 // What a row closes that the other direction has too, or has not.
@@ -117,12 +83,13 @@ fn closed_of(direction: Direction, listed: bool) -> Closed
 fn group_of(alloc: Global, side: Side, vehicle: u8) -> Result<Option<Row>, AllocError>
     requires vehicle { IsVehicle vehicle }
     requires few { NeedsTooMany side.steps.now → ⊥ }
+    requires kept { AreKept side.steps.now side.kept.now }
     ensures { IfOk result (IsGroupOf side.entry.steps.now side.entry.direction side.entry.others.now vehicle) }
 {
     match timing_of(alloc, side.steps, vehicle)? {
         Timing::Never => Ok(None),
         Timing::Closed(domain) => {
-            let types = types_like(alloc, side.steps, vehicle, &domain)?;
+            let types = types_like(side, &domain);
             let mut row = Row {
                 closed: Closed::One(side.direction),
                 types,
@@ -149,14 +116,31 @@ fn is_grouped(rows: &[Row], vehicle: u8) -> bool
     false
 }
 
+// A lower vehicle type of the same times, if one is kept.
+fn lower_of(side: Side, vehicle: u8) -> Option<u8>
+    requires vehicle { IsVehicle vehicle }
+    requires kept { AreKept side.steps.now side.kept.now }
+    ensures { IfSome result (λ lower. IsVehicle lower × (lower < vehicle)
+        × (times_of side.entry.steps.now lower ≡ times_of side.entry.steps.now vehicle)) }
+{
+    match &side.kept[usize::from(vehicle)] {
+        Kept::Own(_) => None,
+        Kept::As(lower) => Some(*lower),
+    }
+}
+
 // Puts the row with the domain of a vehicle type, if there is one and it is not there.
 fn put_group(alloc: Global, rows: &mut Vec<Row>, side: Side, vehicle: u8) -> Result<(), AllocError>
     requires vehicle { IsVehicle vehicle }
     requires few { NeedsTooMany side.steps.now → ⊥ }
+    requires kept { AreKept side.steps.now side.kept.now }
     ensures { GroupedTo side.entry.steps.now side.entry.direction side.entry.others.now vehicle rows.old.items
         → OnOk result (GroupedTo side.entry.steps.now side.entry.direction side.entry.others.now (vehicle + 1)
         rows.new.items) }
 {
+    if let Some(_) = lower_of(side, vehicle) {
+        return Ok(());
+    }
     if is_grouped(rows.as_slice(), vehicle) {
         return Ok(());
     }
@@ -169,9 +153,10 @@ fn put_group(alloc: Global, rows: &mut Vec<Row>, side: Side, vehicle: u8) -> Res
     }
 }
 
-/// The rows of steps in a direction, which close both if the other direction has the same.
-pub(crate) fn groups_of(alloc: Global, side: Side) -> Result<Vec<Row>, AllocError>
+// The rows of steps in a direction, which close both if the other direction has the same.
+fn groups_of(alloc: Global, side: Side) -> Result<Vec<Row>, AllocError>
     requires few { NeedsTooMany side.steps.now → ⊥ }
+    requires kept { AreKept side.steps.now side.kept.now }
     ensures groups { IfOk result (λ rows. AreGroups side.entry.steps.now rows.items) }
     ensures closed { IfOk result (λ rows. Each (IsMarked side.entry.direction side.entry.others.now) rows.items) }
 {
@@ -180,4 +165,28 @@ pub(crate) fn groups_of(alloc: Global, side: Side) -> Result<Vec<Row>, AllocErro
         put_group(alloc, &mut rows, side, vehicle)?;
     }
     Ok(rows)
+}
+
+/// The rows of steps in a direction, where these vehicle types are alike. They close both directions if the other one has the
+/// same rows.
+pub(crate) fn groups_in(
+    alloc: Global,
+    steps: &[Step],
+    alike: &Alike,
+    direction: Direction,
+    others: &[Row],
+) -> Result<Vec<Row>, AllocError>
+    requires few { NeedsTooMany steps.now → ⊥ }
+    requires alike { AreAlike steps.now alike.now }
+    ensures groups { IfOk result (λ rows. AreGroups steps.now rows.items) }
+    ensures closed { IfOk result (λ rows. Each (IsMarked direction others.now) rows.items) }
+{
+    let kept = kept_timings(alloc, steps, alike)?;
+    let side = Side {
+        steps,
+        kept: kept.as_slice(),
+        direction,
+        others,
+    };
+    groups_of(alloc, side)
 }

@@ -14,11 +14,13 @@ pub use step::Step;
 pub use types::Types;
 pub use vehicles::types_of;
 
+mod alike;
 mod count;
 mod expr;
 mod fault;
 mod flags;
 mod groups;
+mod kept;
 mod listing;
 mod row;
 mod rows;

@@ -3,14 +3,16 @@
 ghost use Rattle.std.specs.Prelude.{◌≡◌, ◌↔◌, ◌⊎◌, ◌++◌, ℕ, ℤ, not, filter, Err, IfOk, OnOk};
 ghost use Rattle.gtd_records.specs.Closing.{ClosesDirection};
 ghost use Rattle.gtd_records.specs.declared.direction.Direction.{Direction};
+ghost use Rattle.gtd_conditional_rows.specs.Alike.{AreAlike};
 ghost use Rattle.gtd_conditional_rows.specs.Rows.{AreRows, AtMostOne, IsClosedByRow, is_listed, steps_in};
 ghost use Rattle.gtd_conditional_rows.specs.Steps.{IsClosed};
 ghost use Rattle.gtd_conditional_rows.specs.Times.{NeedsTooMany};
 ghost use Rattle.gtd_conditional_rows.specs.Types.{HasType, IsVehicle};
 
-use crate::count::needs_too_many;
+use crate::alike::{Alike, alike_in};
+use crate::count::need_too_many;
 use crate::fault::RowsFault;
-use crate::groups::{Side, groups_of};
+use crate::groups::groups_in;
 use crate::row::{Row, is_listed};
 use crate::step::Step;
 use gtd_records::Direction;
@@ -30,26 +32,26 @@ fn put_unlisted(rows: &mut Vec<Row>, others: Vec<Row>) -> Result<(), AllocError>
     Ok(())
 }
 
-fn joined(alloc: Global, positive: &[Step], negative: &[Step]) -> Result<Vec<Row>, AllocError>
+fn joined(
+    alloc: Global,
+    positive: &[Step],
+    ahead: &Alike,
+    negative: &[Step],
+    back: &Alike,
+) -> Result<Vec<Row>, AllocError>
     requires positive { NeedsTooMany positive.now → ⊥ }
     requires negative { NeedsTooMany negative.now → ⊥ }
+    requires ahead { AreAlike positive.now ahead.now }
+    requires back { AreAlike negative.now back.now }
     ensures { IfOk result (λ rows. AreRows positive.now negative.now rows.items) }
 {
-    let backward = groups_of(
+    let backward = groups_in(alloc, negative, back, Direction::Negative, &[])?;
+    let mut rows = groups_in(
         alloc,
-        Side {
-            steps: negative,
-            direction: Direction::Negative,
-            others: &[],
-        },
-    )?;
-    let mut rows = groups_of(
-        alloc,
-        Side {
-            steps: positive,
-            direction: Direction::Positive,
-            others: backward.as_slice(),
-        },
+        positive,
+        ahead,
+        Direction::Positive,
+        backward.as_slice(),
     )?;
     put_unlisted(&mut rows, backward)?;
     Ok(rows)
@@ -66,10 +68,12 @@ pub fn rows_of(alloc: Global, positive: &[Step], negative: &[Step]) -> Result<Ve
         → AtMostOne (λ row. ClosesDirection row.closed direction × HasType row.types t) rows.items) }
     ensures too_many { (result ≡ Err RowsFault.TooMany) ↔ (NeedsTooMany positive.now ⊎ NeedsTooMany negative.now) }
 {
-    if needs_too_many(positive) || needs_too_many(negative) {
+    let ahead = alike_in(positive);
+    let back = alike_in(negative);
+    if need_too_many(positive, &ahead) || need_too_many(negative, &back) {
         return Err(RowsFault::TooMany);
     }
-    match joined(alloc, positive, negative) {
+    match joined(alloc, positive, &ahead, negative, &back) {
         Ok(rows) => Ok(rows),
         Err(_) => Err(RowsFault::NoMemory),
     }

@@ -1,6 +1,6 @@
 //! The vehicle types of a record, as a set.
 
-ghost use Rattle.std.specs.Prelude.{◌↔◌, ℕ, IsTrue};
+ghost use Rattle.std.specs.Prelude.{◌≡◌, ◌↔◌, ◌⊎◌, ℕ};
 ghost use Rattle.std.specs.List.{Contains};
 ghost use Rattle.gtd_records.specs.Closing.{Serves};
 ghost use Rattle.gtd_conditional_rows.specs.Types.{HasType, IsVehicle};
@@ -8,10 +8,13 @@ ghost use Rattle.gtd_conditional_rows.specs.Types.{HasType, IsVehicle};
 use crate::types::Types;
 use gtd_records::Vehicles;
 
-fn names(codes: &[u8], vehicle: u8) -> bool
-    ensures { IsTrue result ↔ Contains codes.now vehicle }
+// Adds the type of a code, if it is one of a vehicle type.
+fn add_code(types: &mut Types, code: u8)
+    ensures { (t : ℕ) → IsVehicle t → HasType types.new t ↔ (HasType types.old t ⊎ (t ≡ code)) }
 {
-    codes.contains(&vehicle)
+    if 1 <= code && code <= 99 {
+        types.add(code);
+    }
 }
 
 // The types of a list.
@@ -19,10 +22,8 @@ fn listed(codes: &[u8]) -> Types
     ensures { (t : ℕ) → IsVehicle t → HasType result t ↔ Contains codes.now t }
 {
     let mut types = Types::none();
-    for vehicle in 1..100 {
-        if names(codes, vehicle) {
-            types.add(vehicle);
-        }
+    for code in codes {
+        add_code(&mut types, *code);
     }
     types
 }

@@ -1,11 +1,9 @@
 //! Keys of tags.
 
 ghost use Rattle.std.specs.Prelude.{◌≡◌, ◌≤◌};
-ghost use Rattle.gtd_conditional_means.specs.Meanings.{is_of_kind, is_row_of};
-ghost use Rattle.gtd_conditional_means.specs.declared.meaning.MeansKind.{MeansKind};
 ghost use Rattle.gtd_conditional_tags.specs.Keys as spec;
 
-use gtd_conditional_means::{Meaning, Means, MeansRow};
+use gtd_conditional_means::Means;
 use gtd_records::Direction;
 
 /// A key that says when a way may be used: for which mode, in which directions, and whether under conditions.
@@ -109,34 +107,11 @@ pub(crate) fn parts_of(text: &[u8]) -> KeyParts<'_>
     }
 }
 
-fn is_of_mode(meaning: &Meaning) -> bool
-    ensures { result ≡ is_of_kind MeansKind.Mode meaning.now }
-{
-    match meaning {
-        Meaning::Mode(_) => true,
-        _ => false,
-    }
-}
-
-// Whether a row is one of a mode.
-fn is_mode(row: &MeansRow, name: &[u8]) -> bool
-    ensures { result ≡ is_row_of MeansKind.Mode name.now row.now }
-{
-    is_of_mode(&row.meaning) && row.name.as_slice() == name
-}
-
 // The number of rows before the first one of a mode.
-fn mode_at(rows: &[MeansRow], name: &[u8]) -> Option<usize>
-    ensures { result ≡ spec.mode_at 0 name.now rows.now }
+fn mode_at(means: &Means, name: &[u8]) -> Option<usize>
+    ensures { result ≡ spec.mode_at 0 name.now means.now.rows.items }
 {
-    let mut at = 0usize;
-    for row in rows {
-        if is_mode(row, name) {
-            return Some(at);
-        }
-        at += 1;
-    }
-    None
+    means.mode_place(name)
 }
 
 // Whether there is a key of a mode with this name and direction: of `oneway` there is none with a direction.
@@ -156,7 +131,7 @@ pub(crate) fn key_of(means: &Means, parts: KeyParts<'_>) -> Option<Key>
     if !is_said(parts.name, parts.direction) {
         return None;
     }
-    match mode_at(means.rows.as_slice(), parts.name) {
+    match mode_at(means, parts.name) {
         Some(mode) => Some(Key {
             mode,
             direction: parts.direction,

@@ -7,4 +7,4 @@ use Rattle.gtd_conditional_rows.proofs.groups.types_like.Given as goal
 -- the types so far
 abbrev pub invariant-loop-other : goal.invariant-loop-other
 invariant-loop-other l = (t : ℕ) → IsVehicle t
-    → HasType l.types t ↔ ((t < l.other) × (times_of l.steps t ≡ domain_times l.domain))
+    → HasType l.types t ↔ ((t < l.other) × (times_of l.side.steps.now t ≡ domain_times l.domain))

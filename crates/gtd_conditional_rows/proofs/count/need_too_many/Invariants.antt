@@ -2,7 +2,7 @@ use Rattle.std.proofs.Common.{◌<◌, ℕ}
 use Rattle.gtd_core.specs.Limits.{most_basic_domains}
 use Rattle.gtd_conditional_rows.specs.Times.{leaves_in, times_of}
 use Rattle.gtd_conditional_rows.specs.Types.{IsVehicle}
-use Rattle.gtd_conditional_rows.proofs.count.needs_too_many.Given as goal
+use Rattle.gtd_conditional_rows.proofs.count.need_too_many.Given as goal
 
 -- none so far needs too many
 abbrev pub invariant-loop-vehicle : goal.invariant-loop-vehicle
