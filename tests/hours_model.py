@@ -427,10 +427,10 @@ def ranged(first, last):
     return first if first == last else f"{first}-{last}"
 
 
-def years_text(first, last, step, alone):
-    """Years as a text. A year that is not alone is a range, since one before a month with a day would belong to it."""
+def years_text(first, last, step, as_range):
+    """Years as a text. One year by itself is a range before others, since one before a month with a day would belong to it."""
     if step == 1 and first == last:
-        return f"{first}" if alone else f"{first}-{last}"
+        return f"{first}-{last}" if as_range else f"{first}"
     if last == LAST_YEAR and step == 1:
         return f"{first}+"
     is_left_out = last == LAST_YEAR and len(range(first, last + 1, step)) <= MOST_YEARS
@@ -455,11 +455,11 @@ def in_one(selectors):
     return found
 
 
-def text_of(selectors, alone=True):
+def text_of(selectors, as_range):
     """Selectors that are written as one, of which there is mostly one, as a text."""
     kind, first, last = selectors[0][:3]
     if kind == "years":
-        return years_text(*selectors[0][1:], alone)
+        return years_text(*selectors[0][1:], as_range)
     if kind == "weeks":
         last, step = selectors[-1][2:]
         return str(ranged(first, last)) if step == 1 else f"{first}-{last}/{step}"
@@ -494,7 +494,8 @@ def text_of_rule(rule, following):
     """A rule as a text, where these follow."""
     words = []
     for kind, selectors in rule.kinds.items():
-        listed = ",".join(text_of(each, list(rule.kinds) == ["years"]) for each in in_one(selectors))
+        as_range = len(selectors) == 1 and len(rule.kinds) > 1
+        listed = ",".join(text_of(each, as_range) for each in in_one(selectors))
         words.append("week " + listed if kind == "weeks" else listed)
     if has_times(rule):
         ranges = [(begin, end if end <= 2 * DAY else end - DAY) for begin, end in rule.times]

@@ -127,7 +127,7 @@ yearly_text x =
     four_digits x.first ++ codes "-" ++ four_digits x.last ++ codes " " ++ month_name x.month ++ codes " " ++ decimal x.day
     ++ step_text x.days
 
--- a selector, and whether another kind of selectors follows
+-- a selector by itself, and whether another kind of selectors follows
 abbrev pub selector_text : Bool → Selector → List ℕ
 selector_text follows (Years years) = years_text follows years.first years.last years.step
 selector_text follows (Months months) = months_text months.first months.last
@@ -179,17 +179,22 @@ joined_text (Moved x) ys =
     (if x.is_back then codes ",-" else codes ",") ++ decimal x.place.number ++ (if places_join x ys then [] else place_end x)
 joined_text x ys = []
 
--- a selector that is not written in one with the one before it, where these follow
-abbrev pub listed_text : Bool → Selector → List Selector → List ℕ
-listed_text follows x ys = if joins x ys then begun_text x else selector_text follows x
+-- a selector of a list that is not written in one with the one before it, where these follow
+abbrev pub listed_text : Selector → List Selector → List ℕ
+listed_text x ys = if joins x ys then begun_text x else selector_text false x
 
 -- ---- kinds
 
 -- those of one kind behind a selector of it, with commas between those that are not written in one
-abbrev pub more_selectors_text : Bool → Selector → List Selector → List ℕ
-more_selectors_text follows x [] = []
-more_selectors_text follows x (y ∷ ys) =
-    (if joins x (y ∷ ys) then joined_text y ys else codes "," ++ listed_text follows y ys) ++ more_selectors_text follows y ys
+abbrev pub more_selectors_text : Selector → List Selector → List ℕ
+more_selectors_text x [] = []
+more_selectors_text x (y ∷ ys) =
+    (if joins x (y ∷ ys) then joined_text y ys else codes "," ++ listed_text y ys) ++ more_selectors_text y ys
+
+-- a selector by itself, or a list that begins with it
+abbrev pub selectors_text : Bool → Selector → List Selector → List ℕ
+selectors_text follows x [] = selector_text follows x
+selectors_text follows x (y ∷ ys) = listed_text x (y ∷ ys) ++ more_selectors_text x (y ∷ ys)
 
 -- the word before weeks
 abbrev pub kind_word : Selector → List ℕ
@@ -207,7 +212,7 @@ kind_word (Yearly days) = []
 
 abbrev pub kind_text : Bool → List Selector → List ℕ
 kind_text follows [] = []
-kind_text follows (x ∷ xs) = kind_word x ++ listed_text follows x xs ++ more_selectors_text follows x xs
+kind_text follows (x ∷ xs) = kind_word x ++ selectors_text follows x xs
 
 abbrev pub is_some_kind : List Kind → Bool
 is_some_kind [] = false

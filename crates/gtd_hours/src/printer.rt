@@ -10,7 +10,7 @@ ghost use Rattle.gtd_hours.specs.Written.{kind_word, kinds_text, link_text, modi
 ghost use Rattle.gtd_hours.specs.Written.{months_text, more_rules_text, more_selectors_text, more_times_text, needs_word};
 ghost use Rattle.gtd_hours.specs.Written.{rule_text, rules_text, selector_text, spans_text, step_text, time_text, times_text};
 ghost use Rattle.gtd_hours.specs.Written.{two_digits, weekday_name, weekdays_text, weeks_text, year_date_text, years_text};
-ghost use Rattle.gtd_hours.specs.Written.{end_text, moved_text, offset_text, yearly_text};
+ghost use Rattle.gtd_hours.specs.Written.{end_text, moved_text, offset_text, selectors_text, yearly_text};
 
 use crate::hours::{
     Dated, Dates, Hours, Kind, Link, Modifier, MonthDay, Months, Rule, Selector, TimeRange,
@@ -162,8 +162,25 @@ fn push_selectors(out: &mut String, follows: bool, selectors: &[Selector]) -> Re
         None => Ok(()),
         Some((first, more)) => {
             push_word(out, *first)?;
-            push_listed(out, follows, *first, more)?;
-            push_more_selectors(out, follows, *first, more)
+            push_one_or_more(out, follows, *first, more)
+        }
+    }
+}
+
+// A selector by itself, or a list that begins with it.
+fn push_one_or_more(
+    out: &mut String,
+    follows: bool,
+    first: Selector,
+    more: &[Selector],
+) -> Result<(), AllocError>
+    ensures { OnOk result (string_bytes out.new ≡ string_bytes out.old ++ selectors_text follows first more.now) }
+{
+    match more.split_first() {
+        None => push_selector(out, follows, first),
+        Some(_) => {
+            push_listed(out, first, more)?;
+            push_more_selectors(out, first, more)
         }
     }
 }
@@ -180,11 +197,10 @@ fn push_word(out: &mut String, selector: Selector) -> Result<(), AllocError>
 // Selectors behind one of their kind.
 fn push_more_selectors(
     out: &mut String,
-    follows: bool,
     first: Selector,
     selectors: &[Selector],
 ) -> Result<(), AllocError>
-    ensures { OnOk result (string_bytes out.new ≡ string_bytes out.old ++ more_selectors_text follows first selectors.now) }
+    ensures { OnOk result (string_bytes out.new ≡ string_bytes out.old ++ more_selectors_text first selectors.now) }
 {
     let mut before = first;
     let mut rest = selectors;
@@ -193,7 +209,7 @@ fn push_more_selectors(
             push_joined(out, *selector, more)?;
         } else {
             out.push_str(",")?;
-            push_listed(out, follows, *selector, more)?;
+            push_listed(out, *selector, more)?;
         }
         before = *selector;
         rest = more;
@@ -256,19 +272,14 @@ fn are_moved_alike(place: MovedPlace, next: MovedPlace) -> bool
         && place.is_before == next.is_before
 }
 
-// A selector that is not written in one with the one before it, where these follow.
-fn push_listed(
-    out: &mut String,
-    follows: bool,
-    selector: Selector,
-    more: &[Selector],
-) -> Result<(), AllocError>
-    ensures { OnOk result (string_bytes out.new ≡ string_bytes out.old ++ listed_text follows selector more.now) }
+// A selector of a list that is not written in one with the one before it, where these follow.
+fn push_listed(out: &mut String, selector: Selector, more: &[Selector]) -> Result<(), AllocError>
+    ensures { OnOk result (string_bytes out.new ≡ string_bytes out.old ++ listed_text selector more.now) }
 {
     if joins(selector, more) {
         return push_begun(out, selector);
     }
-    push_selector(out, follows, selector)
+    push_selector(out, false, selector)
 }
 
 // The first of selectors that are written in one.

@@ -237,6 +237,22 @@ more_items IsOne t m c d timed i more = record {
   says = says_joined i.p more.q c d i.says more.says;
 }
 
+-- one by itself
+unfoldable pub alone : (IsOne : Text) (t : List ℕ) (c : Contents) (timed : Bool) → Item IsOne t c timed → Items IsOne t c timed
+alone IsOne t c timed i = record {
+  q = i.p;
+  us = i.us;
+  spelt = i.spelt;
+  listed = λ later rest. record {
+    q = later;
+    us = rest;
+    one = i.one later rest;
+    more = no_more later rest refl refl;
+  };
+  says = i.says;
+  front = i.front;
+}
+
 -- a list behind a comma
 pub behind_comma : (IsOne : Text) (t : List ℕ) (c : Contents) (timed : Bool) → Items IsOne t c timed
     → MoreItems IsOne (44 ∷ [] ++ t) c
