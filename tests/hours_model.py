@@ -427,12 +427,42 @@ def ranged(first, last):
     return first if first == last else f"{first}-{last}"
 
 
-def text_of(selector, alone=True):
-    """A selector as a text. A year that is not alone is a range, since one before a month with a day would belong to it."""
-    kind, first, last = selector[:3]
-    if kind in ("years", "weeks"):
-        step = f"/{selector[3]}" if selector[3] != 1 else ""
-        return f"{first}-{last}{step}" if step or first != last or (kind == "years" and not alone) else f"{first}"
+def years_text(first, last, step, as_range):
+    """Years as a text. One year by itself is a range before others, since one before a month with a day would belong to it."""
+    if step == 1 and first == last:
+        return f"{first}-{last}" if as_range else f"{first}"
+    if last == LAST_YEAR and step == 1:
+        return f"{first}+"
+    is_left_out = last == LAST_YEAR and len(range(first, last + 1, step)) <= MOST_YEARS
+    return f"{first}" + ("" if is_left_out else f"-{last}") + (f"/{step}" if step != 1 else "")
+
+
+def are_one(selector, following):
+    """Whether two selectors are written as one: weeks over New Year, and places of one weekday with the same days from them."""
+    if selector[0] == following[0] == "weeks":
+        return selector[2:] == (53, 1) and following[1] == following[3] == 1 and following[2] < selector[1]
+    return selector[0] == following[0] == "moved" and (selector[1], selector[4]) == (following[1], following[4])
+
+
+def in_one(selectors):
+    """Lists of neighbours that are written as one."""
+    found = []
+    for selector in selectors:
+        if found and are_one(found[-1][-1], selector):
+            found[-1].append(selector)
+        else:
+            found.append([selector])
+    return found
+
+
+def text_of(selectors, as_range):
+    """Selectors that are written as one, of which there is mostly one, as a text."""
+    kind, first, last = selectors[0][:3]
+    if kind == "years":
+        return years_text(*selectors[0][1:], as_range)
+    if kind == "weeks":
+        last, step = selectors[-1][2:]
+        return str(ranged(first, last)) if step == 1 else f"{first}-{last}/{step}"
     if kind == "months":
         return ranged(MONTHS[first - 1], MONTHS[last - 1])
     if kind == "dates":
@@ -441,9 +471,11 @@ def text_of(selector, alone=True):
         return ranged(*(f"{date.year} {MONTHS[date.month - 1]} {date.day}" for date in (first, last)))
     if kind == "weekdays":
         return ranged(WEEKDAYS[first - 1], WEEKDAYS[last - 1])
-    is_back = kind == "back" or kind == "moved" and selector[3]
-    offset = f" {selector[4]:+} {'day' if abs(selector[4]) == 1 else 'days'}" if kind == "moved" else ""
-    return f"{WEEKDAYS[first - 1]}[{'-' if is_back else ''}{last}]{offset}"
+    if kind != "moved":
+        return f"{WEEKDAYS[first - 1]}[{'-' if kind == 'back' else ''}{last}]"
+    places = ",".join(f"{'-' if is_back else ''}{number}" for _, _, number, is_back, _ in selectors)
+    days = selectors[0][4]
+    return f"{WEEKDAYS[first - 1]}[{places}] {days:+} {'day' if abs(days) == 1 else 'days'}"
 
 
 def has_times(rule):
@@ -462,7 +494,8 @@ def text_of_rule(rule, following):
     """A rule as a text, where these follow."""
     words = []
     for kind, selectors in rule.kinds.items():
-        listed = ",".join(text_of(selector, list(rule.kinds) == ["years"]) for selector in selectors)
+        as_range = len(selectors) == 1 and len(rule.kinds) > 1
+        listed = ",".join(text_of(each, as_range) for each in in_one(selectors))
         words.append("week " + listed if kind == "weeks" else listed)
     if has_times(rule):
         ranges = [(begin, end if end <= 2 * DAY else end - DAY) for begin, end in rule.times]

@@ -1,5 +1,5 @@
 -- How opening hours are written, in the syntax of OpenStreetMap.
-use Rattle.std.specs.Prelude.{ℕ, ◌+◌, ◌/◌, ◌%◌, ◌==◌, ◌&&◌, Bool, true, false, not, List, [], ◌∷◌, ◌++◌, codes}
+use Rattle.std.specs.Prelude.{ℕ, ◌+◌, ◌*◌, ◌/◌, ◌%◌, ◌==◌, ◌&&◌, nat_lt, Bool, true, false, not, List, [], ◌∷◌, ◌++◌, codes}
 use Rattle.std.specs.Prelude.{decimal, if◌then◌else◌}
 use Rattle.gtd_hours.specs.declared.hours.Selector.{Selector}
 use Rattle.gtd_hours.specs.declared.hours.Selector.TheVariants.{Years, Months, Dates, Dated, Weeks, Weekdays, Nth, NthBack}
@@ -9,6 +9,7 @@ use Rattle.gtd_hours.specs.declared.places.End.{End}
 use Rattle.gtd_hours.specs.declared.places.End.TheVariants.{Date, Place}
 use Rattle.gtd_hours.specs.declared.places.MovedPlace.{MovedPlace}
 use Rattle.gtd_hours.specs.declared.hours.MonthDay.{MonthDay}
+use Rattle.gtd_hours.specs.declared.hours.Weeks.{Weeks as WeekRange}
 use Rattle.gtd_hours.specs.declared.hours.YearDate.{YearDate}
 use Rattle.gtd_hours.specs.declared.hours.Kind.{Kind}
 use Rattle.gtd_hours.specs.declared.hours.TimeRange.{TimeRange}
@@ -57,11 +58,16 @@ weekday_name weekday =
 abbrev pub step_text : ℕ → List ℕ
 step_text step = if step == 1 then [] else codes "/" ++ decimal step
 
+-- Years that go on to 2799, the last one of the calendar, are written without it: `2026+`, or `2026/8` if they are at most 128.
+abbrev pub go_on : ℕ → ℕ → ℕ → Bool
+go_on first last step = (last == 2799) && (if step == 1 then nat_lt first 2799 else nat_lt 2799 (first + 128 * step))
+
 -- One year by itself is written as a range if another kind of selectors follows: directly before a date it would be the
 -- year of that date.
 abbrev pub years_text : Bool → ℕ → ℕ → ℕ → List ℕ
 years_text follows first last step =
     if (first == last) && (step == 1) && not follows then four_digits first
+    else if go_on first last step then four_digits first ++ (if step == 1 then codes "+" else step_text step)
     else four_digits first ++ codes "-" ++ four_digits last ++ step_text step
 
 abbrev pub weeks_text : ℕ → ℕ → ℕ → List ℕ
@@ -83,14 +89,20 @@ dates_text first last =
 abbrev pub year_date_text : YearDate → List ℕ
 year_date_text date = four_digits date.year ++ codes " " ++ month_name date.month ++ codes " " ++ decimal date.day
 
+abbrev pub is_one_date : YearDate → YearDate → Bool
+is_one_date first last = (first.year == last.year) && (first.month == last.month) && (first.day == last.day)
+
+abbrev pub dated_text : YearDate → YearDate → List ℕ
+dated_text first last =
+    if is_one_date first last then year_date_text first else year_date_text first ++ codes "-" ++ year_date_text last
+
 abbrev pub weekdays_text : ℕ → ℕ → List ℕ
 weekdays_text first last =
     if first == last then weekday_name first else weekday_name first ++ codes "-" ++ weekday_name last
 
--- a place from the beginning of the month, or back from its end
-abbrev pub place_text : Bool → WeekdayPlace → List ℕ
-place_text back place =
-    weekday_name place.weekday ++ (if back then codes "[-" else codes "[") ++ decimal place.number ++ codes "]"
+-- a place from the beginning of the month, or back from its end, up to its number
+abbrev pub begun_place : Bool → WeekdayPlace → List ℕ
+begun_place back place = weekday_name place.weekday ++ (if back then codes "[-" else codes "[") ++ decimal place.number
 
 -- the days after a place, or before it
 abbrev pub offset_text : Bool → ℕ → List ℕ
@@ -98,8 +110,11 @@ offset_text before days =
     if days == 0 then []
     else (if before then codes " -" else codes " +") ++ decimal days ++ (if days == 1 then codes " day" else codes " days")
 
+abbrev pub place_end : MovedPlace → List ℕ
+place_end x = codes "]" ++ offset_text x.is_before x.days
+
 abbrev pub moved_text : MovedPlace → List ℕ
-moved_text x = place_text x.is_back x.place ++ offset_text x.is_before x.days
+moved_text x = begun_place x.is_back x.place ++ place_end x
 
 -- an end of a range that moves
 abbrev pub end_text : End → List ℕ
@@ -112,12 +127,12 @@ yearly_text x =
     four_digits x.first ++ codes "-" ++ four_digits x.last ++ codes " " ++ month_name x.month ++ codes " " ++ decimal x.day
     ++ step_text x.days
 
--- a selector, and whether another kind of selectors follows
+-- a selector by itself, and whether another kind of selectors follows
 abbrev pub selector_text : Bool → Selector → List ℕ
 selector_text follows (Years years) = years_text follows years.first years.last years.step
 selector_text follows (Months months) = months_text months.first months.last
 selector_text follows (Dates dates) = dates_text dates.first dates.last
-selector_text follows (Dated dates) = year_date_text dates.first ++ codes "-" ++ year_date_text dates.last
+selector_text follows (Dated dates) = dated_text dates.first dates.last
 selector_text follows (Weeks weeks) = weeks_text weeks.first weeks.last weeks.step
 selector_text follows (Weekdays days) = weekdays_text days.first days.last
 selector_text follows (Nth place) = weekday_name place.weekday ++ codes "[" ++ decimal place.number ++ codes "]"
@@ -126,10 +141,60 @@ selector_text follows (Moved place) = moved_text place
 selector_text follows (Moving range) = end_text range.first ++ codes "-" ++ end_text range.last
 selector_text follows (Yearly days) = yearly_text days
 
--- those of one kind, with commas between them
-abbrev pub more_selectors_text : Bool → List Selector → List ℕ
-more_selectors_text follows [] = []
-more_selectors_text follows (x ∷ xs) = codes "," ++ selector_text follows x ++ more_selectors_text follows xs
+-- ---- weeks that are written in one, and places that are
+
+-- weeks to the last one, before those from the first one to one that is before them: `45-13`
+abbrev pub are_back_weeks : WeekRange → WeekRange → Bool
+are_back_weeks x y = (x.last == 53) && (x.step == 1) && (y.first == 1) && (y.step == 1) && nat_lt y.last x.first
+
+-- places of one weekday that are moved by as many days in the same direction: `We[2,4] +2 days`
+abbrev pub are_moved_alike : MovedPlace → MovedPlace → Bool
+are_moved_alike x y =
+    (x.place.weekday == y.place.weekday) && (x.days == y.days) && (if x.is_before then y.is_before else not y.is_before)
+
+abbrev pub weeks_join : WeekRange → List Selector → Bool
+weeks_join x (Weeks y ∷ ys) = are_back_weeks x y
+weeks_join x ys = false
+
+abbrev pub places_join : MovedPlace → List Selector → Bool
+places_join x (Moved y ∷ ys) = are_moved_alike x y
+places_join x ys = false
+
+-- A selector is written in one with the first of those behind it.
+abbrev pub joins : Selector → List Selector → Bool
+joins (Weeks x) ys = weeks_join x ys
+joins (Moved x) ys = places_join x ys
+joins x ys = false
+
+-- the first of those that are written in one
+abbrev pub begun_text : Selector → List ℕ
+begun_text (Weeks x) = decimal x.first
+begun_text (Moved x) = begun_place x.is_back x.place
+begun_text x = []
+
+-- a later one of them, where these follow
+abbrev pub joined_text : Selector → List Selector → List ℕ
+joined_text (Weeks x) ys = codes "-" ++ decimal x.last
+joined_text (Moved x) ys =
+    (if x.is_back then codes ",-" else codes ",") ++ decimal x.place.number ++ (if places_join x ys then [] else place_end x)
+joined_text x ys = []
+
+-- a selector of a list that is not written in one with the one before it, where these follow
+abbrev pub listed_text : Selector → List Selector → List ℕ
+listed_text x ys = if joins x ys then begun_text x else selector_text false x
+
+-- ---- kinds
+
+-- those of one kind behind a selector of it, with commas between those that are not written in one
+abbrev pub more_selectors_text : Selector → List Selector → List ℕ
+more_selectors_text x [] = []
+more_selectors_text x (y ∷ ys) =
+    (if joins x (y ∷ ys) then joined_text y ys else codes "," ++ listed_text y ys) ++ more_selectors_text y ys
+
+-- a selector by itself, or a list that begins with it
+abbrev pub selectors_text : Bool → Selector → List Selector → List ℕ
+selectors_text follows x [] = selector_text follows x
+selectors_text follows x (y ∷ ys) = listed_text x (y ∷ ys) ++ more_selectors_text x (y ∷ ys)
 
 -- the word before weeks
 abbrev pub kind_word : Selector → List ℕ
@@ -147,7 +212,7 @@ kind_word (Yearly days) = []
 
 abbrev pub kind_text : Bool → List Selector → List ℕ
 kind_text follows [] = []
-kind_text follows (x ∷ xs) = kind_word x ++ selector_text follows x ++ more_selectors_text follows xs
+kind_text follows (x ∷ xs) = kind_word x ++ selectors_text follows x xs
 
 abbrev pub is_some_kind : List Kind → Bool
 is_some_kind [] = false

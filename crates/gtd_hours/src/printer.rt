@@ -1,13 +1,16 @@
 //! Opening hours, written in the syntax of OpenStreetMap.
 
-ghost use Rattle.std.specs.Prelude.{◌≡◌, ◌≤◌, ◌<◌, ◌+◌, ◌++◌, [], ◌∷◌, if◌then◌else◌, string_bytes, codes, decimal, IfOk, OnOk};
+ghost use Rattle.std.specs.Prelude.{◌==◌, ◌≡◌, ◌≤◌, ◌<◌, ◌+◌, ◌++◌, [], ◌∷◌, if◌then◌else◌, string_bytes, codes, decimal};
+ghost use Rattle.std.specs.Prelude.{IfOk, OnOk};
+ghost use Rattle.gtd_hours.specs.Written.{are_back_weeks, are_moved_alike, begun_place, begun_text, dated_text, go_on};
+ghost use Rattle.gtd_hours.specs.Written.{is_one_date, joined_text, joins, listed_text, place_end, places_join, weeks_join};
 ghost use Rattle.gtd_hours.specs.Ranges.{IsMonth, IsWeekday};
 ghost use Rattle.gtd_hours.specs.Written.{clock_text, dates_text, four_digits, goes_into, hours_text, is_some_kind, kind_text};
 ghost use Rattle.gtd_hours.specs.Written.{kind_word, kinds_text, link_text, modifier_text, month_day_text, month_name};
 ghost use Rattle.gtd_hours.specs.Written.{months_text, more_rules_text, more_selectors_text, more_times_text, needs_word};
 ghost use Rattle.gtd_hours.specs.Written.{rule_text, rules_text, selector_text, spans_text, step_text, time_text, times_text};
 ghost use Rattle.gtd_hours.specs.Written.{two_digits, weekday_name, weekdays_text, weeks_text, year_date_text, years_text};
-ghost use Rattle.gtd_hours.specs.Written.{end_text, moved_text, offset_text, yearly_text};
+ghost use Rattle.gtd_hours.specs.Written.{end_text, moved_text, offset_text, selectors_text, yearly_text};
 
 use crate::hours::{
     Dated, Dates, Hours, Kind, Link, Modifier, MonthDay, Months, Rule, Selector, TimeRange,
@@ -19,6 +22,9 @@ use itoa::Buffer;
 use std::alloc::{AllocError, Global};
 
 /// The text of the hours, or an error if memory was refused.
+///
+/// Years up to 2799 are written without this last year where a text can have them so, weeks over New Year as one range, and
+/// neighbouring places of one weekday with the same days from them in the same brackets.
 ///
 /// Rules have `; `, `, ` or ` || ` before them, as their links say, kinds of selectors and times a space, and a closed rule ends
 /// in ` off`. An open rule ends in ` open` only where the comma of the next rule would else go on with its times or selectors. A
@@ -156,8 +162,25 @@ fn push_selectors(out: &mut String, follows: bool, selectors: &[Selector]) -> Re
         None => Ok(()),
         Some((first, more)) => {
             push_word(out, *first)?;
-            push_selector(out, follows, *first)?;
-            push_more_selectors(out, follows, more)
+            push_one_or_more(out, follows, *first, more)
+        }
+    }
+}
+
+// A selector by itself, or a list that begins with it.
+fn push_one_or_more(
+    out: &mut String,
+    follows: bool,
+    first: Selector,
+    more: &[Selector],
+) -> Result<(), AllocError>
+    ensures { OnOk result (string_bytes out.new ≡ string_bytes out.old ++ selectors_text follows first more.now) }
+{
+    match more.split_first() {
+        None => push_selector(out, follows, first),
+        Some(_) => {
+            push_listed(out, first, more)?;
+            push_more_selectors(out, first, more)
         }
     }
 }
@@ -171,20 +194,133 @@ fn push_word(out: &mut String, selector: Selector) -> Result<(), AllocError>
     }
 }
 
+// Selectors behind one of their kind.
 fn push_more_selectors(
     out: &mut String,
-    follows: bool,
+    first: Selector,
     selectors: &[Selector],
 ) -> Result<(), AllocError>
-    ensures { OnOk result (string_bytes out.new ≡ string_bytes out.old ++ more_selectors_text follows selectors.now) }
+    ensures { OnOk result (string_bytes out.new ≡ string_bytes out.old ++ more_selectors_text first selectors.now) }
 {
+    let mut before = first;
     let mut rest = selectors;
     while let Some((selector, more)) = rest.split_first() {
-        out.push_str(",")?;
-        push_selector(out, follows, *selector)?;
+        if joins(before, rest) {
+            push_joined(out, *selector, more)?;
+        } else {
+            out.push_str(",")?;
+            push_listed(out, *selector, more)?;
+        }
+        before = *selector;
         rest = more;
     }
     Ok(())
+}
+
+// Whether a selector is written in one with the first of those behind it.
+fn joins(selector: Selector, more: &[Selector]) -> bool
+    ensures { result ≡ joins selector more.now }
+{
+    match selector {
+        Selector::Weeks(weeks) => weeks_join(weeks, more),
+        Selector::Moved(place) => places_join(place, more),
+        _ => false,
+    }
+}
+
+fn weeks_join(weeks: Weeks, more: &[Selector]) -> bool
+    ensures { result ≡ weeks_join weeks more.now }
+{
+    match more.first() {
+        None => false,
+        Some(next) => match *next {
+            Selector::Weeks(next) => are_back_weeks(weeks, next),
+            _ => false,
+        },
+    }
+}
+
+// Weeks to the last one, before those from the first one to one that is before them.
+fn are_back_weeks(weeks: Weeks, next: Weeks) -> bool
+    ensures { result ≡ are_back_weeks weeks next }
+{
+    weeks.last == 53
+        && weeks.step == 1
+        && next.first == 1
+        && next.step == 1
+        && next.last < weeks.first
+}
+
+fn places_join(place: MovedPlace, more: &[Selector]) -> bool
+    ensures { result ≡ places_join place more.now }
+{
+    match more.first() {
+        None => false,
+        Some(next) => match *next {
+            Selector::Moved(next) => are_moved_alike(place, next),
+            _ => false,
+        },
+    }
+}
+
+// Places of one weekday that are moved by as many days in the same direction.
+fn are_moved_alike(place: MovedPlace, next: MovedPlace) -> bool
+    ensures { result ≡ are_moved_alike place next }
+{
+    place.place.weekday == next.place.weekday
+        && place.days == next.days
+        && place.is_before == next.is_before
+}
+
+// A selector of a list that is not written in one with the one before it, where these follow.
+fn push_listed(out: &mut String, selector: Selector, more: &[Selector]) -> Result<(), AllocError>
+    ensures { OnOk result (string_bytes out.new ≡ string_bytes out.old ++ listed_text selector more.now) }
+{
+    if joins(selector, more) {
+        return push_begun(out, selector);
+    }
+    push_selector(out, false, selector)
+}
+
+// The first of selectors that are written in one.
+fn push_begun(out: &mut String, selector: Selector) -> Result<(), AllocError>
+    ensures { OnOk result (string_bytes out.new ≡ string_bytes out.old ++ begun_text selector) }
+{
+    match selector {
+        Selector::Weeks(weeks) => out.push_str(Buffer::new().format(weeks.first)),
+        Selector::Moved(place) => push_begun_place(out, place.is_back, place.place),
+        _ => Ok(()),
+    }
+}
+
+// A later one of them, where these follow.
+fn push_joined(out: &mut String, selector: Selector, more: &[Selector]) -> Result<(), AllocError>
+    ensures { OnOk result (string_bytes out.new ≡ string_bytes out.old ++ joined_text selector more.now) }
+{
+    match selector {
+        Selector::Weeks(weeks) => {
+            out.push_str("-")?;
+            out.push_str(Buffer::new().format(weeks.last))
+        }
+        Selector::Moved(place) => push_joined_place(out, place, more),
+        _ => Ok(()),
+    }
+}
+
+fn push_joined_place(
+    out: &mut String,
+    place: MovedPlace,
+    more: &[Selector],
+) -> Result<(), AllocError>
+    ensures { OnOk result (string_bytes out.new ≡ string_bytes out.old ++ ((if place.is_back then codes ",-" else codes ",")
+        ++ decimal place.place.number ++ (if places_join place more.now then [] else place_end place))) }
+{
+    out.push_str(if place.is_back { ",-" } else { "," })?;
+    out.push_str(Buffer::new().format(place.place.number))?;
+    if places_join(place, more) {
+        return Ok(());
+    }
+    push_place_end(out, place)
 }
 
 fn push_selector(out: &mut String, follows: bool, selector: Selector) -> Result<(), AllocError>
@@ -213,9 +349,36 @@ fn push_years(out: &mut String, follows: bool, years: Years) -> Result<(), Alloc
     if years.first == years.last && years.step == 1 && !follows {
         return Ok(());
     }
+    if go_on(years) {
+        return push_on(out, years.step);
+    }
     out.push_str("-")?;
     push_four_digits(out, years.last)?;
     push_step(out, years.step)
+}
+
+// Whether years are written without the last one of the calendar, to which they go on.
+fn go_on(years: Years) -> bool
+    ensures { result ≡ go_on years.first years.last years.step }
+{
+    if years.last != 2799 {
+        return false;
+    }
+    if years.step == 1 {
+        return years.first < 2799;
+    }
+    2799 < u32::from(years.first) + 128 * u32::from(years.step)
+}
+
+// What is written behind the first of years that go on.
+fn push_on(out: &mut String, step: u16) -> Result<(), AllocError>
+    ensures { OnOk result (string_bytes out.new
+        ≡ string_bytes out.old ++ (if step == 1 then codes "+" else step_text step)) }
+{
+    if step == 1 {
+        return out.push_str("+");
+    }
+    push_step(out, step)
 }
 
 fn push_weeks(out: &mut String, weeks: Weeks) -> Result<(), AllocError>
@@ -272,12 +435,20 @@ fn push_month_day(out: &mut String, date: MonthDay) -> Result<(), AllocError>
 }
 
 fn push_dated(out: &mut String, dates: Dated) -> Result<(), AllocError>
-    ensures { OnOk result (string_bytes out.new
-        ≡ string_bytes out.old ++ (year_date_text dates.first ++ codes "-" ++ year_date_text dates.last)) }
+    ensures { OnOk result (string_bytes out.new ≡ string_bytes out.old ++ dated_text dates.first dates.last) }
 {
     push_year_date(out, dates.first)?;
+    if is_one_date(dates.first, dates.last) {
+        return Ok(());
+    }
     out.push_str("-")?;
     push_year_date(out, dates.last)
+}
+
+fn is_one_date(first: YearDate, last: YearDate) -> bool
+    ensures { result ≡ is_one_date first last }
+{
+    first.year == last.year && first.month == last.month && first.day == last.day
 }
 
 fn push_year_date(out: &mut String, date: YearDate) -> Result<(), AllocError>
@@ -314,7 +485,23 @@ fn push_place(out: &mut String, bracket: &str, place: WeekdayPlace) -> Result<()
 fn push_moved(out: &mut String, place: MovedPlace) -> Result<(), AllocError>
     ensures { OnOk result (string_bytes out.new ≡ string_bytes out.old ++ moved_text place) }
 {
-    push_place(out, if place.is_back { "[-" } else { "[" }, place.place)?;
+    push_begun_place(out, place.is_back, place.place)?;
+    push_place_end(out, place)
+}
+
+// A place from the beginning of the month, or back from its end, up to its number.
+fn push_begun_place(out: &mut String, is_back: bool, place: WeekdayPlace) -> Result<(), AllocError>
+    ensures { OnOk result (string_bytes out.new ≡ string_bytes out.old ++ begun_place is_back place) }
+{
+    out.push_str(weekday_name(place.weekday))?;
+    out.push_str(if is_back { "[-" } else { "[" })?;
+    out.push_str(Buffer::new().format(place.number))
+}
+
+fn push_place_end(out: &mut String, place: MovedPlace) -> Result<(), AllocError>
+    ensures { OnOk result (string_bytes out.new ≡ string_bytes out.old ++ place_end place) }
+{
+    out.push_str("]")?;
     push_offset(out, place.is_before, place.days)
 }
 

@@ -10,6 +10,7 @@ pub mod WrittenParts
 pub mod WrittenItems
 pub mod WrittenSelectors
 pub mod WrittenDays
+pub mod WrittenPlaces
 pub mod WrittenKinds
 pub mod WrittenChain
 pub mod WrittenRules

@@ -1,8 +1,8 @@
 -- Written months, dates, weekdays and times are pieces.
 use Rattle.std.proofs.Common.{◌≡◌, ℕ, ◌+◌, ◌/◌, ◌%◌, ◌≤◌, Bool, true, false, cond, List, [], ◌∷◌, ◌++◌, length}
-use Rattle.std.proofs.Common.{Option, Some, None, refl, sym, ap, subst, arith}
-use Rattle.std.specs.Prelude.{◌==◌, ◌&&◌, ◌||◌, codes, decimal, ℤ, pos, ◌≤ℤ◌, if◌then◌else◌, nat_lt}
-use Rattle.std.proofs.lemmas.Bool.{eqb-true, ltb-true, ne_eqb}
+use Rattle.std.proofs.Common.{Option, Some, None, refl, sym, subst, arith}
+use Rattle.std.specs.Prelude.{◌==◌, ◌&&◌, ◌||◌, codes, decimal, ℤ, pos, ◌≤ℤ◌}
+use Rattle.std.proofs.lemmas.Bool.{eqb-true}
 use Rattle.std.proofs.lemmas.Bool.Decides.{nat_tests}
 use Rattle.std.proofs.lemmas.Int.{ints}
 use Rattle.gtd_hours.specs.declared.hours.Selector.{Selector}
@@ -14,12 +14,11 @@ use Rattle.gtd_hours.specs.declared.hours.Dates.{Dates}
 use Rattle.gtd_hours.specs.declared.hours.Dated.{Dated}
 use Rattle.gtd_hours.specs.declared.hours.Weekdays.{Weekdays}
 use Rattle.gtd_hours.specs.declared.hours.WeekdayPlace.{WeekdayPlace}
-use Rattle.gtd_hours.specs.declared.places.MovedPlace.{MovedPlace}
 use Rattle.gtd_hours.specs.declared.hours.TimeRange.{TimeRange}
 use Rattle.gtd_hours.specs.Calendar.{is_leap_year, month_length}
 use Rattle.gtd_hours.specs.Ranges.{IsTimeRange}
 use Rattle.gtd_hours.specs.Written.{clock_text, four_digits, month_day_text, month_name}
-use Rattle.gtd_hours.specs.Written.{offset_text, place_text, selector_text, time_text, weekday_name, year_date_text}
+use Rattle.gtd_hours.specs.Written.{begun_place, is_one_date, selector_text, time_text, weekday_name, year_date_text}
 use Rattle.gtd_hours_tokens.specs.declared.token.TokenKind.{TokenKind}
 use Rattle.gtd_hours_tokens.specs.declared.token.TokenKind.TheVariants as token
 use Rattle.gtd_hours_parts.specs.declared.clock.ClockTime.{ClockTime}
@@ -29,14 +28,13 @@ use Rattle.gtd_hours_parts.specs.declared.piece.LastDate.{LastDate}
 use Rattle.gtd_hours_parts.specs.declared.piece.LastDate.TheVariants as last_date
 use Rattle.gtd_hours_parts.specs.declared.piece.WrittenDate.{WrittenDate}
 use Rattle.gtd_hours_parts.specs.Pieces.{AreWrittenDates, AreWrittenTimes, IsWrittenDate}
-use Rattle.gtd_hours_moves.specs.Grammar.{IsDates, IsMonthDays, IsOffset, IsPlaces, IsTimes, IsWeekdays, Suits, date_before}
-use Rattle.gtd_hours_moves.specs.Grammar.{in_full, none as no_more, offset_before, range_to, sign}
+use Rattle.gtd_hours_moves.specs.Grammar.{IsDates, IsMonthDays, IsPlaces, IsTimes, IsWeekdays, date_before}
+use Rattle.gtd_hours_moves.specs.Grammar.{in_full, none as no_more, range_to}
 use Rattle.gtd_hours_parts.specs.declared.piece.Offset.{Offset}
 use Rattle.gtd_hours_parts.specs.declared.piece.Piece.{Piece}
 use Rattle.gtd_hours_text.specs.Standing.{AllWeekdays, AreMoved, ArePlaces, AreSelectors, offset_in}
-use Rattle.gtd_hours_text.proofs.WrittenTokens.{Anything, Apart, Spelt, decimal_spelt, joined, loose, sign_spelt, space_spelt}
-use Rattle.gtd_hours_text.proofs.WrittenTokens.{word_spelt}
-use Rattle.gtd_hours_text.proofs.WrittenParts.{clock_spelt, dashed, length_of_decimal, month_spelt, spaced, weekday_spelt}
+use Rattle.gtd_hours_text.proofs.WrittenTokens.{Anything, Apart, Spelt, decimal_spelt, joined, sign_spelt, tight}
+use Rattle.gtd_hours_text.proofs.WrittenParts.{clock_spelt, dashed, month_spelt, spaced, weekday_spelt}
 use Rattle.gtd_hours_text.proofs.WrittenParts.{year_spelt}
 use Rattle.gtd_hours_text.proofs.WrittenItems.{AreAll, Item, Says, in_brackets, no_selectors, no_weekdays, one_piece}
 use Rattle.gtd_hours_text.proofs.WrittenItems.{only_month_days, only_times, only_weekdays, says_of}
@@ -183,9 +181,28 @@ year_date_spelt date =
     (spaced (four_digits date.year) (month_name date.month) (token.Number date.year 4 ∷ []) (token.Month date.month ∷ [])
     (year_spelt date.year (omega (arith, late))) (month_spelt date.month r.1.0)) (decimal_spelt date.day (omega (arith, high)))
 
-pub dated_item : (follows : Bool) (x : Dated) → Item (IsMonthDays in_full) (selector_text follows (selector.Dated x))
+dated_by : (x : Dated) (b : Bool) → is_one_date x.first x.last ≡ b
+    → Item (IsMonthDays in_full) (cond b (year_date_text x.first) (year_date_text x.first ++ codes "-" ++ year_date_text x.last))
     (only_month_days (selector.Dated x ∷ [])) false
-dated_item follows x =
+dated_by x true e =
+    let both = and_both ((x.first.year == x.last.year) && (x.first.month == x.last.month)) (x.first.day == x.last.day) e in
+    let same = and_both (x.first.year == x.last.year) (x.first.month == x.last.month) both.0 in
+    record {
+      p = piece.Dates (dated x.first) None ∷ [];
+      us = dated_kinds x.first;
+      spelt = year_date_spelt x.first;
+      one = λ later rest. a_date (dated x.first) None later rest (is_dated x.first) (record {});
+      says = says_dates (dated x.first) None (selector.Dated x ∷ []) (
+        (refl, refl, refl),
+        (
+          sym (eqb-true x.first.year x.last.year same.0),
+          sym (eqb-true x.first.month x.last.month same.1),
+          sym (eqb-true x.first.day x.last.day both.1),
+        ),
+      );
+      front = λ rest. refl;
+    }
+dated_by x false e =
     let last = is_dated x.last in
     record {
       p = piece.Dates (dated x.first) (Some (last_date.Date (dated x.last))) ∷ [];
@@ -198,6 +215,10 @@ dated_item follows x =
           ((refl, refl, refl), (refl, refl, refl));
       front = λ rest. refl;
     }
+
+pub dated_item : (follows : Bool) (x : Dated) → Item (IsMonthDays in_full) (selector_text follows (selector.Dated x))
+    (only_month_days (selector.Dated x ∷ [])) false
+dated_item follows x = dated_by x (is_one_date x.first x.last) refl
 
 -- ---- weekdays
 
@@ -247,9 +268,6 @@ weekdays_item follows x = weekdays_by x (x.first == x.last) refl
 
 -- ---- places
 
-tight : (a : List ℕ) (k : List TokenKind) → Spelt Anything a k → Spelt Apart a k
-tight a k x = record { go = λ rest more c s. x.go rest more tt s }
-
 opened : (a : List ℕ) (j : List TokenKind) → Spelt Apart a j → Spelt Anything (a ++ 91 ∷ []) (j ++ token.OpenBracket ∷ [])
 opened a j x = joined Apart Anything a (91 ∷ []) j (token.OpenBracket ∷ []) x (sign_spelt 91 token.OpenBracket refl)
     (λ rest c. (refl, refl, refl))
@@ -259,39 +277,51 @@ closed a j x = tight (a ++ 93 ∷ []) (j ++ token.CloseBracket ∷ [])
     (joined Apart Anything a (93 ∷ []) j (token.CloseBracket ∷ []) x (sign_spelt 93 token.CloseBracket refl)
     (λ rest c. (refl, refl, refl)))
 
-nth_spelt : (x : WeekdayPlace) → Spelt Apart (weekday_name x.weekday ++ codes "[" ++ decimal x.number ++ codes "]")
-    (token.Weekday x.weekday ∷ token.OpenBracket ∷ token.Number x.number (length (decimal x.number)) ∷ token.CloseBracket ∷ [])
-nth_spelt x =
+-- the tokens of the number of a place, with the sign of one back from the end of the month
+abbrev pub number_kinds : Bool → WeekdayPlace → List TokenKind
+number_kinds true x = token.Dash ∷ token.Number x.number (length (decimal x.number)) ∷ []
+number_kinds false x = token.Number x.number (length (decimal x.number)) ∷ []
+
+-- a place up to its number
+pub begun_spelt : (back : Bool) (x : WeekdayPlace)
+    → Spelt Apart (begun_place back x) (token.Weekday x.weekday ∷ token.OpenBracket ∷ number_kinds back x)
+begun_spelt false x =
     let r = x.in_range in
-    closed (weekday_name x.weekday ++ codes "[" ++ decimal x.number)
-    (token.Weekday x.weekday ∷ token.OpenBracket ∷ token.Number x.number (length (decimal x.number)) ∷ [])
-    (joined Anything Apart (weekday_name x.weekday ++ codes "[") (decimal x.number)
+    joined Anything Apart (weekday_name x.weekday ++ codes "[") (decimal x.number)
     (token.Weekday x.weekday ∷ token.OpenBracket ∷ []) (token.Number x.number (length (decimal x.number)) ∷ [])
     (opened (weekday_name x.weekday) (token.Weekday x.weekday ∷ []) (weekday_spelt x.weekday r.0))
-    (decimal_spelt x.number (omega (arith, r.2))) (λ rest c. tt))
+    (decimal_spelt x.number (omega (arith, r.2))) (λ rest c. tt)
+begun_spelt true x =
+    let r = x.in_range in
+    let signs : Spelt Anything (91 ∷ 45 ∷ []) (token.OpenBracket ∷ token.Dash ∷ []) =
+    joined Anything Anything (91 ∷ []) (45 ∷ []) (token.OpenBracket ∷ []) (token.Dash ∷ []) (sign_spelt 91 token.OpenBracket refl)
+    (sign_spelt 45 token.Dash refl) (λ rest c. tt) in
+    joined Anything Apart (weekday_name x.weekday ++ codes "[-") (decimal x.number)
+    (token.Weekday x.weekday ∷ token.OpenBracket ∷ token.Dash ∷ []) (token.Number x.number (length (decimal x.number)) ∷ [])
+    (joined Apart Anything (weekday_name x.weekday) (codes "[-") (token.Weekday x.weekday ∷ [])
+    (token.OpenBracket ∷ token.Dash ∷ []) (weekday_spelt x.weekday r.0) signs (λ rest c. (refl, refl, refl)))
+    (decimal_spelt x.number (omega (arith, r.2))) (λ rest c. tt)
 
 -- the tokens of a place in brackets
 abbrev nth_kinds : WeekdayPlace → List TokenKind
 nth_kinds x =
     token.Weekday x.weekday ∷ token.OpenBracket ∷ token.Number x.number (length (decimal x.number)) ∷ token.CloseBracket ∷ []
 
-nth_are : (x : WeekdayPlace) → AreSelectors (piece.Places x.weekday (digits x.number) None) (selector.Nth x ∷ [])
+pub nth_are : (x : WeekdayPlace) → AreSelectors (piece.Places x.weekday (digits x.number) None) (selector.Nth x ∷ [])
 nth_are x =
     ArePlaces.place x.number x.number (selector.Nth x) [] (selector.Nth x ∷ []) (omega arith) refl (refl, refl)
     (ArePlaces.past (x.number + 1) x.number [] (omega arith) refl)
 
-nth_one : (x : WeekdayPlace) (o : Option Offset) (later : List Piece) (rest : List TokenKind) → IsOffset o
-    → Suits o false x.number
-    → IsWeekdays (piece.Places x.weekday (digits x.number) None ∷ piece.PlacesEnd o ∷ later)
-    (nth_kinds x ++ offset_before o rest) later rest
-nth_one x o later rest is suits =
+nth_one : (x : WeekdayPlace) (later : List Piece) (rest : List TokenKind)
+    → IsWeekdays (piece.Places x.weekday (digits x.number) None ∷ piece.PlacesEnd None ∷ later) (nth_kinds x ++ rest) later rest
+nth_one x later rest =
     let r = x.in_range in
-    IsWeekdays.places x.weekday o
-    (token.Number x.number (length (decimal x.number)) ∷ token.CloseBracket ∷ offset_before o rest) refl r.0 is (record {
-      q = piece.PlacesEnd o ∷ later;
-      us = token.CloseBracket ∷ offset_before o rest;
-      one = IsPlaces.one (digits x.number) refl refl (is_place x.number r.1 r.2) suits;
-      more = no_more (piece.PlacesEnd o ∷ later) (token.CloseBracket ∷ offset_before o rest) refl refl;
+    IsWeekdays.places x.weekday None (token.Number x.number (length (decimal x.number)) ∷ token.CloseBracket ∷ rest) refl r.0
+    (record {}) (record {
+      q = piece.PlacesEnd None ∷ later;
+      us = token.CloseBracket ∷ rest;
+      one = IsPlaces.one (digits x.number) refl refl (is_place x.number r.1 r.2) (record {});
+      more = no_more (piece.PlacesEnd None ∷ later) (token.CloseBracket ∷ rest) refl refl;
     })
 
 pub nth_item : (follows : Bool) (x : WeekdayPlace)
@@ -299,8 +329,8 @@ pub nth_item : (follows : Bool) (x : WeekdayPlace)
 nth_item follows x = record {
   p = piece.Places x.weekday (digits x.number) None ∷ piece.PlacesEnd None ∷ [];
   us = nth_kinds x;
-  spelt = nth_spelt x;
-  one = λ later rest. nth_one x None later rest (record {}) (record {});
+  spelt = closed (begun_place false x) (token.Weekday x.weekday ∷ token.OpenBracket ∷ number_kinds false x) (begun_spelt false x);
+  one = λ later rest. nth_one x later rest;
   says = says_of (piece.Places x.weekday (digits x.number) None ∷ piece.PlacesEnd None ∷ [])
       (only_weekdays (selector.Nth x ∷ [])) no_selectors no_selectors no_selectors
       (in_brackets (piece.Places x.weekday (digits x.number) None) None (selector.Nth x ∷ []) (selector.Nth x ∷ []) (nth_are x)
@@ -308,40 +338,21 @@ nth_item follows x = record {
   front = λ rest. refl;
 }
 
-back_spelt : (x : WeekdayPlace) → Spelt Apart (weekday_name x.weekday ++ codes "[-" ++ decimal x.number ++ codes "]")
-    (token.Weekday x.weekday ∷ token.OpenBracket ∷ token.Dash ∷ token.Number x.number (length (decimal x.number))
-    ∷ token.CloseBracket ∷ [])
-back_spelt x =
-    let r = x.in_range in
-    let signs : Spelt Anything (91 ∷ 45 ∷ []) (token.OpenBracket ∷ token.Dash ∷ []) =
-    joined Anything Anything (91 ∷ []) (45 ∷ []) (token.OpenBracket ∷ []) (token.Dash ∷ []) (sign_spelt 91 token.OpenBracket refl)
-    (sign_spelt 45 token.Dash refl) (λ rest c. tt) in
-    closed (weekday_name x.weekday ++ codes "[-" ++ decimal x.number)
-    (token.Weekday x.weekday ∷ token.OpenBracket ∷ token.Dash ∷ token.Number x.number (length (decimal x.number)) ∷ [])
-    (joined Anything Apart (weekday_name x.weekday ++ codes "[-") (decimal x.number)
-    (token.Weekday x.weekday ∷ token.OpenBracket ∷ token.Dash ∷ []) (token.Number x.number (length (decimal x.number)) ∷ [])
-    (joined Apart Anything (weekday_name x.weekday) (codes "[-") (token.Weekday x.weekday ∷ [])
-    (token.OpenBracket ∷ token.Dash ∷ []) (weekday_spelt x.weekday r.0) signs (λ rest c. (refl, refl, refl)))
-    (decimal_spelt x.number (omega (arith, r.2))) (λ rest c. tt))
-
 abbrev back_kinds : WeekdayPlace → List TokenKind
 back_kinds x =
     token.Weekday x.weekday ∷ token.OpenBracket ∷ token.Dash ∷ token.Number x.number (length (decimal x.number))
     ∷ token.CloseBracket ∷ []
 
-back_one : (x : WeekdayPlace) (o : Option Offset) (later : List Piece) (rest : List TokenKind) → IsOffset o
-    → Suits o true x.number
-    → IsWeekdays (piece.PlaceBack x.weekday (digits x.number) ∷ piece.PlacesEnd o ∷ later)
-    (back_kinds x ++ offset_before o rest) later rest
-back_one x o later rest is suits =
+back_one : (x : WeekdayPlace) (later : List Piece) (rest : List TokenKind)
+    → IsWeekdays (piece.PlaceBack x.weekday (digits x.number) ∷ piece.PlacesEnd None ∷ later) (back_kinds x ++ rest) later rest
+back_one x later rest =
     let r = x.in_range in
-    IsWeekdays.places x.weekday o
-    (token.Dash ∷ token.Number x.number (length (decimal x.number)) ∷ token.CloseBracket ∷ offset_before o rest) refl r.0 is
-    (record {
-      q = piece.PlacesEnd o ∷ later;
-      us = token.CloseBracket ∷ offset_before o rest;
-      one = IsPlaces.back (digits x.number) refl refl (is_place x.number r.1 r.2) suits;
-      more = no_more (piece.PlacesEnd o ∷ later) (token.CloseBracket ∷ offset_before o rest) refl refl;
+    IsWeekdays.places x.weekday None (token.Dash ∷ token.Number x.number (length (decimal x.number)) ∷ token.CloseBracket ∷ rest)
+    refl r.0 (record {}) (record {
+      q = piece.PlacesEnd None ∷ later;
+      us = token.CloseBracket ∷ rest;
+      one = IsPlaces.back (digits x.number) refl refl (is_place x.number r.1 r.2) (record {});
+      more = no_more (piece.PlacesEnd None ∷ later) (token.CloseBracket ∷ rest) refl refl;
     })
 
 pub back_item : (follows : Bool) (x : WeekdayPlace)
@@ -349,123 +360,14 @@ pub back_item : (follows : Bool) (x : WeekdayPlace)
 back_item follows x = record {
   p = piece.PlaceBack x.weekday (digits x.number) ∷ piece.PlacesEnd None ∷ [];
   us = back_kinds x;
-  spelt = back_spelt x;
-  one = λ later rest. back_one x None later rest (record {}) (record {});
+  spelt = closed (begun_place true x) (token.Weekday x.weekday ∷ token.OpenBracket ∷ number_kinds true x) (begun_spelt true x);
+  one = λ later rest. back_one x later rest;
   says = says_of (piece.PlaceBack x.weekday (digits x.number) ∷ piece.PlacesEnd None ∷ [])
       (only_weekdays (selector.NthBack x ∷ [])) no_selectors no_selectors no_selectors
       (in_brackets (piece.PlaceBack x.weekday (digits x.number)) None (selector.NthBack x ∷ []) (selector.NthBack x ∷ [])
       (refl, refl) (refl, record {})) (record {}) refl refl;
   front = λ rest. refl;
 }
-
--- ---- places with offsets
-
-offset_sign : (before : Bool) → Spelt Anything (if before then codes " -" else codes " +") (sign before ∷ [])
-offset_sign true =
-    joined Anything Anything (32 ∷ []) (45 ∷ []) [] (token.Dash ∷ []) space_spelt (sign_spelt 45 token.Dash refl) (λ rest c. tt)
-offset_sign false =
-    joined Anything Anything (32 ∷ []) (43 ∷ []) [] (token.Plus ∷ []) space_spelt (sign_spelt 43 token.Plus refl) (λ rest c. tt)
-
-day_word : (b : Bool) → Spelt Apart (if b then codes " day" else codes " days") (token.Day ∷ [])
-day_word true =
-    loose (32 ∷ []) (codes "day") [] (token.Day ∷ []) space_spelt
-    (word_spelt (codes "day") token.Day (record { letters = refl; word = refl }))
-day_word false =
-    loose (32 ∷ []) (codes "days") [] (token.Day ∷ []) space_spelt
-    (word_spelt (codes "days") token.Day (record { letters = refl; word = refl }))
-
-word_apart : (b : Bool) (rest : List ℕ) → Apart ((if b then codes " day" else codes " days") ++ rest)
-word_apart true rest = (refl, refl, refl)
-word_apart false rest = (refl, refl, refl)
-
-offset_spelt : (before : Bool) (days : ℕ) → days ≤ 27
-    → Spelt Apart ((if before then codes " -" else codes " +") ++ decimal days
-    ++ (if days == 1 then codes " day" else codes " days"))
-    (sign before ∷ token.Number days (length (decimal days)) ∷ token.Day ∷ [])
-offset_spelt before days few =
-    joined Apart Apart ((if before then codes " -" else codes " +") ++ decimal days)
-    (if days == 1 then codes " day" else codes " days") (sign before ∷ token.Number days (length (decimal days)) ∷ [])
-    (token.Day ∷ [])
-    (loose (if before then codes " -" else codes " +") (decimal days) (sign before ∷ [])
-    (token.Number days (length (decimal days)) ∷ []) (offset_sign before) (decimal_spelt days (omega (arith, few))))
-    (day_word (days == 1)) (λ rest c. word_apart (days == 1) rest)
-
-offset_apart : (before : Bool) (a rest : List ℕ) → Apart (((if before then codes " -" else codes " +") ++ a) ++ rest)
-offset_apart true a rest = (refl, refl, refl)
-offset_apart false a rest = (refl, refl, refl)
-
-abbrev offset_of : MovedPlace → Offset
-offset_of x = record { is_before = x.is_before; days = digits x.days }
-
-is_offset : (x : MovedPlace) → 1 ≤ x.days → IsOffset (Some (offset_of x))
-is_offset x some =
-    let l = length_of_decimal 2 x.days (omega arith) (omega (arith, x.in_range.1)) (omega (arith, x.in_range.1)) in
-    (l.0, l.1, some, x.in_range.1)
-
-offset_some : (before : Bool) (days : ℕ) → (days == 0) ≡ false → offset_text before days
-    ≡ (if before then codes " -" else codes " +") ++ decimal days ++ (if days == 1 then codes " day" else codes " days")
-offset_some before days e =
-    ap (λ (b : Bool). if b then [] else ((if before then codes " -" else codes " +") ++ decimal days
-    ++ (if days == 1 then codes " day" else codes " days"))) e
-
-moved_spelt : (x : MovedPlace) (place : List ℕ) (ks : List TokenKind) → (x.days == 0) ≡ false → Spelt Apart place ks
-    → Spelt Apart (place ++ offset_text x.is_before x.days)
-    (ks ++ sign x.is_before ∷ token.Number x.days (length (decimal x.days)) ∷ token.Day ∷ [])
-moved_spelt x place ks e spelt =
-    let days = token.Number x.days (length (decimal x.days)) in
-    subst (λ (l : List ℕ). Spelt Apart (place ++ l) (ks ++ sign x.is_before ∷ days ∷ token.Day ∷ []))
-    (sym (offset_some x.is_before x.days e))
-    (joined Apart Apart place ((if x.is_before then codes " -" else codes " +") ++ decimal x.days
-    ++ (if x.days == 1 then codes " day" else codes " days")) ks (sign x.is_before ∷ days ∷ token.Day ∷ []) spelt
-    (offset_spelt x.is_before x.days x.in_range.1)
-    (λ rest c. moved_apart x.is_before (decimal x.days) (if x.days == 1 then codes " day" else codes " days") rest))
-  where
-    moved_apart : (before : Bool) (a b rest : List ℕ) → Apart (((if before then codes " -" else codes " +") ++ a ++ b) ++ rest)
-    moved_apart true a b rest = (refl, refl, refl)
-    moved_apart false a b rest = (refl, refl, refl)
-
-moved_by : (x : MovedPlace) (back : Bool) → x.is_back ≡ back → 1 ≤ x.days → (x.days == 0) ≡ false
-    → Item IsWeekdays (place_text back x.place ++ offset_text x.is_before x.days) (only_weekdays (selector.Moved x ∷ [])) false
-moved_by x true back some e =
-    let o = Some (offset_of x) in
-    let y = piece.PlaceBack x.place.weekday (digits x.place.number) in
-    let r = x.in_range in
-    record {
-      p = y ∷ piece.PlacesEnd o ∷ [];
-      us = back_kinds x.place ++ sign x.is_before ∷ token.Number x.days (length (decimal x.days)) ∷ token.Day ∷ [];
-      spelt = moved_spelt x (weekday_name x.place.weekday ++ codes "[-" ++ decimal x.place.number ++ codes "]")
-          (back_kinds x.place) e (back_spelt x.place);
-      one = λ later rest. back_one x.place o later rest (is_offset x some)
-          (r.0, r.1, r.2, λ before twice. r.3 before back);
-      says = says_of (y ∷ piece.PlacesEnd o ∷ []) (only_weekdays (selector.Moved x ∷ [])) no_selectors no_selectors no_selectors
-          (in_brackets y o (selector.NthBack x.place ∷ []) (selector.Moved x ∷ []) (refl, refl)
-          ((some, refl, back, refl, refl), record {})) (record {}) refl refl;
-      front = λ rest. refl;
-    }
-moved_by x false front some e =
-    let o = Some (offset_of x) in
-    let y = piece.Places x.place.weekday (digits x.place.number) None in
-    let r = x.in_range in
-    record {
-      p = y ∷ piece.PlacesEnd o ∷ [];
-      us = nth_kinds x.place ++ sign x.is_before ∷ token.Number x.days (length (decimal x.days)) ∷ token.Day ∷ [];
-      spelt = moved_spelt x (weekday_name x.place.weekday ++ codes "[" ++ decimal x.place.number ++ codes "]")
-          (nth_kinds x.place) e (nth_spelt x.place);
-      one = λ later rest. nth_one x.place o later rest (is_offset x some) (r.0, r.1, r.2, λ before never. absurd cc);
-      says = says_of (y ∷ piece.PlacesEnd o ∷ []) (only_weekdays (selector.Moved x ∷ [])) no_selectors no_selectors no_selectors
-          (in_brackets y o (selector.Nth x.place ∷ []) (selector.Moved x ∷ []) (nth_are x.place)
-          ((some, refl, front, refl, refl), record {})) (record {}) refl refl;
-      front = λ rest. refl;
-    }
-
-not_zero : (n : ℕ) → 1 ≤ n → (n == 0) ≡ false
-not_zero n some = ne_eqb n 0 (λ e. omega (arith, some, e))
-
-pub moved_item : (follows : Bool) (x : MovedPlace) → nat_lt 0 x.days ≡ true
-    → Item IsWeekdays (selector_text follows (selector.Moved x)) (only_weekdays (selector.Moved x ∷ [])) false
-moved_item follows x e =
-    let some : 1 ≤ x.days = omega (arith, ltb-true 0 x.days e) in
-    moved_by x x.is_back refl some (not_zero x.days some)
 
 -- ---- times
 

@@ -236,3 +236,33 @@ more_items IsOne t m c d timed i more = record {
       (one_of IsOne i.p more.q later i.us more.us rest (i.one (more.q ++ later) (more.us ++ rest))) (more.more later rest);
   says = says_joined i.p more.q c d i.says more.says;
 }
+
+-- one by itself
+unfoldable pub alone : (IsOne : Text) (t : List ℕ) (c : Contents) (timed : Bool) → Item IsOne t c timed → Items IsOne t c timed
+alone IsOne t c timed i = record {
+  q = i.p;
+  us = i.us;
+  spelt = i.spelt;
+  listed = λ later rest. record {
+    q = later;
+    us = rest;
+    one = i.one later rest;
+    more = no_more later rest refl refl;
+  };
+  says = i.says;
+  front = i.front;
+}
+
+-- a list behind a comma
+pub behind_comma : (IsOne : Text) (t : List ℕ) (c : Contents) (timed : Bool) → Items IsOne t c timed
+    → MoreItems IsOne (44 ∷ [] ++ t) c
+behind_comma IsOne t c timed i = record {
+  q = i.q;
+  us = token.Comma ∷ i.us;
+  spelt = loose (44 ∷ []) t (token.Comma ∷ []) i.us (sign_spelt 44 token.Comma refl) i.spelt;
+  apart = λ rest k. (refl, refl, refl);
+  more = λ later rest.
+      let l = i.listed later rest in
+      one_more (i.q ++ later) l.q (token.Comma ∷ (i.us ++ rest)) (i.us ++ rest) l.us refl l.one l.more;
+  says = i.says;
+}

@@ -1,26 +1,26 @@
 -- Written selectors are pieces.
 use Rattle.std.proofs.Common.{◌≡◌, ℕ, ◌≤◌, Bool, true, false, cond, List, [], ◌∷◌, ◌++◌, length}
 use Rattle.std.proofs.Common.{Option, Some, None, refl, sym, subst, arith}
-use Rattle.std.specs.Prelude.{◌==◌, ◌&&◌, not, codes, decimal}
-use Rattle.std.proofs.lemmas.Bool.{eqb-true}
+use Rattle.std.proofs.Common.{◌+◌, ◌*◌, ap}
+use Rattle.std.specs.Prelude.{◌==◌, ◌&&◌, nat_lt, not, codes, decimal}
+use Rattle.std.proofs.lemmas.Bool.{eqb-true, ltb-true, ne_eqb}
 use Rattle.gtd_hours.specs.declared.hours.Selector.{Selector}
 use Rattle.gtd_hours.specs.declared.hours.Selector.TheVariants as selector
 use Rattle.gtd_hours.specs.declared.hours.Years.{Years}
 use Rattle.gtd_hours.specs.declared.hours.Weeks.{Weeks}
-use Rattle.gtd_hours.specs.Written.{four_digits, selector_text}
-use Rattle.gtd_hours.specs.Written.{step_text}
+use Rattle.gtd_hours.specs.Written.{are_back_weeks, four_digits, go_on, selector_text, step_text, weeks_join}
 use Rattle.gtd_hours_tokens.specs.declared.token.TokenKind.TheVariants as token
 use Rattle.gtd_hours_parts.specs.declared.digits.Digits.{Digits}
 use Rattle.gtd_hours_parts.specs.Numbers.{IsDayNumber, IsPlaceNumber, IsStepNumber, IsWeekNumber, IsYearNumber, step_of}
 use Rattle.gtd_hours_text.proofs.WrittenTerms.{TokenKind, Piece}
 use Rattle.gtd_hours_parts.specs.declared.piece.Piece.TheVariants as piece
-use Rattle.gtd_hours_parts.specs.Pieces.{IsRange}
+use Rattle.gtd_hours_parts.specs.Pieces.{IsRange, final_week, final_year, week_one}
 use Rattle.gtd_hours_moves.specs.Grammar.{IsWeeks, IsYears, begins_with_date, in_full}
 use Rattle.gtd_hours_text.specs.Standing.{AreSelectors}
-use Rattle.gtd_hours_text.proofs.WrittenTokens.{decimal_spelt}
-use Rattle.gtd_hours_text.proofs.WrittenParts.{length_of_decimal, ranged, step_kinds}
+use Rattle.gtd_hours_text.proofs.WrittenTokens.{Anything, Apart, decimal_spelt, joined, sign_spelt, tight}
+use Rattle.gtd_hours_text.proofs.WrittenParts.{dashed, length_of_decimal, ranged, slashed, step_kinds}
 use Rattle.gtd_hours_text.proofs.WrittenParts.{year_spelt}
-use Rattle.gtd_hours_text.proofs.WrittenItems.{Item, Says, no_selectors, no_weekdays, one_piece, says_of}
+use Rattle.gtd_hours_text.proofs.WrittenItems.{Item, Says, no_selectors, no_weekdays, one_piece, says_joined, says_of}
 use Rattle.gtd_hours_text.proofs.WrittenItems.{only_weeks, only_years}
 
 -- ---- numbers
@@ -142,18 +142,66 @@ and_both true true e = (refl, refl)
 and_both true false e = absurd cc
 and_both false b e = absurd cc
 
-not_true : (b : Bool) → not b ≡ true → b ≡ false
+pub not_true : (b : Bool) → not b ≡ true → b ≡ false
 not_true true e = absurd cc
 not_true false e = refl
 
+-- years that go on to the last one of the calendar
+years_on : (follows : Bool) (x : Years) (b : Bool) → (x.step == 1) ≡ b → x.last ≡ 2799
+    → cond b (nat_lt x.first 2799) (nat_lt 2799 (x.first + 128 * x.step)) ≡ true
+    → YearsItem follows (four_digits x.first ++ cond b (codes "+") (cond b [] (codes "/" ++ decimal x.step))) x
+years_on follows x true e last few =
+    let r = x.in_range in
+    let high : x.first ≤ 2799 = omega (arith, r.1, r.2) in
+    record {
+      item = record {
+        p = piece.Years (year_digits x.first) (Some final_year) None ∷ [];
+        us = token.Number x.first 4 ∷ token.Plus ∷ [];
+        spelt = tight (four_digits x.first ++ 43 ∷ []) (token.Number x.first 4 ∷ token.Plus ∷ [])
+            (joined Apart Anything (four_digits x.first) (43 ∷ []) (token.Number x.first 4 ∷ []) (token.Plus ∷ [])
+            (year_spelt x.first (omega (arith, high))) (sign_spelt 43 token.Plus refl) (λ rest c. (refl, refl, refl)));
+        one = λ later rest. IsYears.on (year_digits x.first) refl refl (is_year x.first r.0 high);
+        says = says_years (year_digits x.first) (Some final_year) None (selector.Years x ∷ []) (refl, last, eqb-true x.step 1 e);
+        front = λ rest. refl;
+      };
+      dateless = λ rest d. refl;
+    }
+years_on follows x false e last few =
+    let r = x.in_range in
+    let high : x.first ≤ 2799 = omega (arith, r.1, r.2) in
+    record {
+      item = record {
+        p = piece.Years (year_digits x.first) (Some final_year) (Some (digits x.step)) ∷ [];
+        us = token.Number x.first 4 ∷ token.Slash ∷ token.Number x.step (length (decimal x.step)) ∷ [];
+        spelt = slashed (four_digits x.first) (decimal x.step) (token.Number x.first 4 ∷ [])
+            (token.Number x.step (length (decimal x.step)) ∷ []) (year_spelt x.first (omega (arith, high)))
+            (decimal_spelt x.step r.4);
+        one = λ later rest. IsYears.every_on (year_digits x.first) (digits x.step) refl refl (is_year x.first r.0 high)
+            (is_step x.step r.3 r.4, ltb-true 2799 (x.first + 128 * x.step) few);
+        says = says_years (year_digits x.first) (Some final_year) (Some (digits x.step)) (selector.Years x ∷ [])
+            (refl, last, refl);
+        front = λ rest. refl;
+      };
+      dateless = λ rest d. refl;
+    }
+
+years_from : (follows : Bool) (x : Years) (b : Bool) → go_on x.first x.last x.step ≡ b
+    → YearsItem follows (cond b (four_digits x.first ++ cond (x.step == 1) (codes "+") (step_text x.step))
+    (four_digits x.first ++ codes "-" ++ four_digits x.last ++ step_text x.step)) x
+years_from follows x true e =
+    let both = and_both (x.last == 2799) (cond (x.step == 1) (nat_lt x.first 2799) (nat_lt 2799 (x.first + 128 * x.step))) e in
+    years_on follows x (x.step == 1) refl (eqb-true x.last 2799 both.0) both.1
+years_from follows x false e = years_range follows x
+
 years_by : (follows : Bool) (x : Years) (b : Bool) → ((x.first == x.last) && (x.step == 1) && not follows) ≡ b
-    → YearsItem follows
-    (cond b (four_digits x.first) (four_digits x.first ++ codes "-" ++ four_digits x.last ++ step_text x.step)) x
+    → YearsItem follows (cond b (four_digits x.first)
+    (cond (go_on x.first x.last x.step) (four_digits x.first ++ cond (x.step == 1) (codes "+") (step_text x.step))
+    (four_digits x.first ++ codes "-" ++ four_digits x.last ++ step_text x.step))) x
 years_by follows x true e =
     let both = and_both ((x.first == x.last) && (x.step == 1)) (not follows) e in
     let same = and_both (x.first == x.last) (x.step == 1) both.0 in
     years_one follows x (eqb-true x.first x.last same.0) (eqb-true x.step 1 same.1) (not_true follows both.1)
-years_by follows x false e = years_range follows x
+years_by follows x false e = years_from follows x (go_on x.first x.last x.step) refl
 
 pub years_item : (follows : Bool) (x : Years) → YearsItem follows (selector_text follows (selector.Years x)) x
 years_item follows x = years_by follows x ((x.first == x.last) && (x.step == 1) && not follows) refl
@@ -214,3 +262,44 @@ weeks_by x false e = weeks_range x
 pub weeks_item : (follows : Bool) (x : Weeks)
     → Item (IsWeeks in_full) (selector_text follows (selector.Weeks x)) (only_weeks (selector.Weeks x ∷ [])) false
 weeks_item follows x = weeks_by x ((x.first == x.last) && (x.step == 1)) refl
+
+-- weeks to the last one, and behind them those from the first one on
+pub back_weeks_item : (x y : Weeks) → are_back_weeks x y ≡ true
+    → Item (IsWeeks in_full) (decimal x.first ++ codes "-" ++ decimal y.last)
+    (only_weeks (selector.Weeks x ∷ selector.Weeks y ∷ [])) false
+back_weeks_item x y e =
+    let less = and_both _ (nat_lt y.last x.first) e in
+    let step = and_both _ (y.step == 1) less.0 in
+    let first = and_both _ (y.first == 1) step.0 in
+    let own = and_both (x.last == 53) (x.step == 1) first.0 in
+    let r = x.in_range in
+    let high : x.first ≤ 53 = omega (arith, r.1, r.2) in
+    let s = y.in_range in
+    let low : 1 ≤ y.last = omega (arith, s.0, s.1) in
+    record {
+      p = piece.Weeks (digits x.first) (Some final_week) None ∷ piece.Weeks week_one (Some (digits y.last)) None ∷ [];
+      us = token.Number x.first (length (decimal x.first)) ∷ token.Dash ∷ token.Number y.last (length (decimal y.last)) ∷ [];
+      spelt = dashed (decimal x.first) (decimal y.last) (token.Number x.first (length (decimal x.first)) ∷ [])
+          (token.Number y.last (length (decimal y.last)) ∷ []) (decimal_spelt x.first (omega (arith, high)))
+          (decimal_spelt y.last (omega (arith, s.2)));
+      one = λ later rest. IsWeeks.back (digits x.first) (digits y.last) refl refl
+          (is_week x.first r.0 high, is_week y.last low s.2, ltb-true y.last x.first less.1);
+      says = says_joined (piece.Weeks (digits x.first) (Some final_week) None ∷ [])
+          (piece.Weeks week_one (Some (digits y.last)) None ∷ []) (only_weeks (selector.Weeks x ∷ []))
+          (only_weeks (selector.Weeks y ∷ []))
+          (says_weeks (digits x.first) (Some final_week) None (selector.Weeks x ∷ [])
+          (refl, eqb-true x.last 53 own.0, eqb-true x.step 1 own.1))
+          (says_weeks week_one (Some (digits y.last)) None (selector.Weeks y ∷ [])
+          (eqb-true y.first 1 first.1, refl, eqb-true y.step 1 step.1));
+      front = λ rest. refl;
+    }
+
+-- behind these no others are such
+pub last_back : (x y : Weeks) (ys : List Selector) → are_back_weeks x y ≡ true → weeks_join y ys ≡ false
+last_back x y [] e = refl
+last_back x y (selector.Weeks z ∷ zs) e =
+    let less = ltb-true y.last x.first (and_both _ (nat_lt y.last x.first) e).1 in
+    let r = x.in_range in
+    ap (λ (b : Bool). b && (y.step == 1) && (z.first == 1) && (z.step == 1) && nat_lt z.last y.first)
+    (ne_eqb y.last 53 (λ same. omega (arith, same, less, r.1, r.2)))
+last_back x y (z ∷ zs) e = refl

@@ -119,6 +119,9 @@ joined B C a b j k x y meets = record {
 pub loose : (a b : List ℕ) (j k : List TokenKind) → Spelt Anything a j → Spelt Apart b k → Spelt Apart (a ++ b) (j ++ k)
 loose a b j k x y = joined Anything Apart a b j k x y (λ rest c. tt)
 
+pub tight : (a : List ℕ) (k : List TokenKind) → Spelt Anything a k → Spelt Apart a k
+tight a k x = record { go = λ rest more c s. x.go rest more tt s }
+
 pub empty_spelt : Spelt Apart [] []
 empty_spelt = record { go = λ rest more c s. s }
 

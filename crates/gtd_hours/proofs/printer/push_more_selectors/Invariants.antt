@@ -5,8 +5,8 @@ use Rattle.gtd_hours.proofs.printer.push_more_selectors.Given as goal
 -- what is written, with the rest behind it
 abbrev pub invariant-loop-selector : goal.invariant-loop-selector
 invariant-loop-selector l =
-    string_bytes l.out ++ more_selectors_text l.follows l.rest ≡ string_bytes l.initial.out ++ more_selectors_text l.follows
-    l.selectors
+    string_bytes l.out ++ more_selectors_text l.before l.rest
+    ≡ string_bytes l.initial.out ++ more_selectors_text l.fn.first l.selectors
 
 abbrev pub decreases-loop-selector : goal.decreases-loop-selector
 decreases-loop-selector l = length l.rest
