@@ -1,5 +1,5 @@
 -- Where each row that closes an element has one of another element with the same domain, the other is closed, too.
-use Rattle.std.proofs.Common.{◌≡◌, ◌∙◌, sym, ap, subst, ◌<◌, ◌≤◌, ◌+◌, ℕ, List, length, arith}
+use Rattle.std.proofs.Common.{◌≡◌, ◌∙◌, sym, ap, subst, ◌<◌, ◌+◌, ℕ, List, length, arith}
 use Rattle.std.specs.Prelude.{ℤ, slice_index_or}
 use Rattle.gtd_records.specs.Closing.{Concerns, IsClosed, Restriction}
 use Rattle.gtd_records.specs.Index.{AreElementPlaces, IsRepeated}

@@ -30,8 +30,8 @@ fn is_within(found: &Records, one: DirectedElement, other: DirectedElement, vehi
     true
 }
 
-/// Whether an element in a direction is seen to be closed for the vehicle type at the same seconds as another, since rows with the
-/// same domains close both. Domains in different texts count as different. Takes no memory.
+/// Whether an element in a direction is seen to be closed for the vehicle type at the same seconds as another, since rows with
+/// the same domains close both. Domains in different texts count as different. Takes no memory.
 pub fn are_closed_alike(
     found: &Records,
     one: DirectedElement,
@@ -44,8 +44,8 @@ pub fn are_closed_alike(
     is_within(found, one, other, vehicle) && is_within(found, other, one, vehicle)
 }
 
-/// A hash of the texts of the domains of the rows that close the element in its direction, in whatever order. If as many rows with
-/// the same texts close another, it has the same, and few others have. Takes no memory.
+/// A hash of the texts of the domains of the rows that close the element in its direction, in whatever order. If as many rows
+/// with the same texts close another, it has the same, and few others have. Takes no memory.
 pub fn hash_of_closing(found: &Records, at: DirectedElement, vehicle: u8) -> u32 {
     let mut hash = 0u32;
     for place in found.places_of_element(at.element) {
