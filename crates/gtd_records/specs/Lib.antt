@@ -1,3 +1,4 @@
+pub mod Alike
 pub mod Closing
 pub mod ClosingCursors
 pub mod ClosingRows

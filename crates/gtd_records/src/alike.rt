@@ -1,21 +1,32 @@
 //! Elements that rows with the same domains close.
 
-ghost use Rattle.std.specs.Prelude.{◌↔◌, ℤ, IsTrue};
+ghost use Rattle.std.specs.Prelude.{◌↔◌, ℤ, IsTrue, length};
+ghost use Rattle.gtd_records.specs.Alike.{AreCovered};
 ghost use Rattle.gtd_records.specs.Closing.{IsClosed};
+ghost use Rattle.gtd_records.specs.Index.{ArePlacesWithin};
 
-use crate::direction::DirectedElement;
+use crate::direction::{DirectedElement, Direction};
 use crate::index::Records;
+use gtd_places::RowPlace;
 
 /// How many rows an element has at most that is compared with others.
 const MOST_ROWS: usize = 64;
 
-// Whether rows with the same domains as those that close the one close the other.
-fn is_within(found: &Records, one: DirectedElement, other: DirectedElement, vehicle: u8) -> bool
-    ensures within { IsTrue result → (t : ℤ) → IsClosed found.now one.element one.direction vehicle t
-        → IsClosed found.now other.element other.direction vehicle t }
+/// The places of an element's rows, and a direction of it.
+#[derive(Clone, Copy)]
+struct Side<'a> {
+    places: &'a [RowPlace],
+    direction: Direction,
+}
+
+// Whether rows of the other side have the same domains as those of the one.
+fn is_within(found: &Records, one: Side<'_>, other: Side<'_>, vehicle: u8) -> bool
+    requires one { ArePlacesWithin found.now one.places.now }
+    requires other { ArePlacesWithin found.now other.places.now }
+    ensures covered { IsTrue result → AreCovered found.now one.entry.places.now other.entry.places.now one.entry.direction
+        other.entry.direction vehicle (length one.entry.places.now) }
 {
-    let part = found.places_of_element(one.element);
-    let others = found.places_of_element(other.element);
+    let (part, others) = (one.places, other.places);
     if part.len() > MOST_ROWS || others.len() > MOST_ROWS {
         return false;
     }
@@ -41,7 +52,15 @@ pub fn are_closed_alike(
     ensures alike { IsTrue result → (t : ℤ) → IsClosed found.now one.element one.direction vehicle t
         ↔ IsClosed found.now other.element other.direction vehicle t }
 {
-    is_within(found, one, other, vehicle) && is_within(found, other, one, vehicle)
+    let first = Side {
+        places: found.places_of_element(one.element),
+        direction: one.direction,
+    };
+    let second = Side {
+        places: found.places_of_element(other.element),
+        direction: other.direction,
+    };
+    is_within(found, first, second, vehicle) && is_within(found, second, first, vehicle)
 }
 
 /// A hash of the texts of the domains of the rows that close the element in its direction, in whatever order. If as many rows

@@ -12,7 +12,7 @@ use std::alloc::{AllocError, Global};
 use std::marker::Model;
 
 /// How many texts are kept.
-const PLACES: usize = 1024;
+const PLACES: usize = 4096;
 
 /// The bytes of the longest text that is kept.
 const LONGEST: usize = 256;
@@ -78,9 +78,9 @@ fn hash_of(text: &[u8]) -> u32 {
 
 // The place of a text with this hash. Other texts may have the same place.
 fn place_of(hash: u32) -> usize
-    ensures { result < 1024 }
+    ensures { result < 4096 }
 {
-    (hash >> 22) as usize
+    (hash >> 20) as usize
 }
 
 // A copy of a text, with a copy of its domain.

@@ -75,6 +75,22 @@ fn directions_of(element: u64) -> (DirectedElement, DirectedElement) {
     (positive, negative)
 }
 
+/// The hashes of what closes an element in its directions.
+#[derive(Clone, Copy)]
+pub(crate) struct Hashes {
+    pub(crate) positive: u32,
+    pub(crate) negative: u32,
+}
+
+/// Those of an element.
+pub(crate) fn hashes_of(job: Job<'_>, element: u64) -> Hashes {
+    let (positive, negative) = directions_of(element);
+    Hashes {
+        positive: hash_of_closing(job.found, positive, job.schedule.vehicle),
+        negative: hash_of_closing(job.found, negative, job.schedule.vehicle),
+    }
+}
+
 // Keeps the spans of an element in a direction, if another one with the same hash was seen before.
 fn keep(
     alloc: Global,
@@ -113,13 +129,12 @@ fn keep_both(
         shared.new.lists.items) }
 {
     let (positive, negative) = directions_of(element);
-    let hash = hash_of_closing(job.found, positive, job.schedule.vehicle);
-    let other = hash_of_closing(job.found, negative, job.schedule.vehicle);
-    keep(alloc, job, shared, positive, hash)?;
-    if other == hash {
+    let hashes = hashes_of(job, element);
+    keep(alloc, job, shared, positive, hashes.positive)?;
+    if hashes.negative == hashes.positive {
         return Ok(());
     }
-    keep(alloc, job, shared, negative, other)
+    keep(alloc, job, shared, negative, hashes.negative)
 }
 
 /// Spans of those elements that rows with the same domains close as an earlier one. `AllocError` is answered only if memory was
@@ -160,18 +175,16 @@ pub(crate) fn own_spans(
     job: Job<'_>,
     shared: &Shared,
     element: u64,
+    hashes: Hashes,
 ) -> Result<Option<Shared>, AllocError>
     ensures right { IfOk result (λ found. IfSome found
         (λ own. AreRight job.entry.found.now job.entry.schedule.vehicle job.entry.schedule.horizon own.lists.items)) }
 {
-    let (positive, negative) = directions_of(element);
-    let hash = hash_of_closing(job.found, positive, job.schedule.vehicle);
-    if hash == 0
-        || hash != hash_of_closing(job.found, negative, job.schedule.vehicle)
-        || shared.places.list_of(hash).is_some()
-    {
+    let hash = hashes.positive;
+    if hash == 0 || hash != hashes.negative || shared.places.list_of(hash).is_some() {
         return Ok(None);
     }
+    let (positive, _) = directions_of(element);
     let Some(known) = spans_of(alloc, job, positive, MOST_OF_AN_ELEMENT)? else {
         return Ok(None);
     };
@@ -179,17 +192,22 @@ pub(crate) fn own_spans(
     Ok(Some(own))
 }
 
-/// The spans in which the element is open in its direction, if those of one that rows with the same domains close are kept.
+/// The spans in which the element, which has these hashes, is open in its direction, if those of one that rows with the same
+/// domains close are kept.
 pub(crate) fn spans_for<'a>(
     job: Job<'_>,
     shared: &'a Shared,
     at: DirectedElement,
+    hashes: Hashes,
 ) -> Option<&'a SpanList>
     requires right { AreRight job.found.now job.schedule.vehicle job.schedule.horizon shared.now.lists.items }
     ensures right { IfSome result (λ spans. IsNormalOver
         (IsOpen job.entry.found.now at.element at.direction job.entry.schedule.vehicle) job.entry.schedule.horizon spans.now) }
 {
-    let hash = hash_of_closing(job.found, at, job.schedule.vehicle);
+    let hash = match at.direction {
+        Direction::Positive => hashes.positive,
+        Direction::Negative => hashes.negative,
+    };
     let list = shared.places.list_of(hash)?;
     let known = shared.lists.get(list)?;
     if !are_closed_alike(job.found, known.at, at, job.schedule.vehicle) {

@@ -6,7 +6,7 @@ ghost use Rattle.gtd_schedule.specs.Shared.{AreRight};
 ghost use Rattle.gtd_spans.specs.facts.FitsProp.{IsNormal-prop};
 
 use crate::elements::{ScheduleLines, put_direction_spans};
-use crate::shared::{Job, Shared, own_spans, spans_for};
+use crate::shared::{Hashes, Job, Shared, hashes_of, own_spans, spans_for};
 use gtd_devices::Output;
 use gtd_records::{Records, open_seconds};
 use gtd_report::{DirectedElement, DirectionLines, ElementLines, Printer, Stop, put_both};
@@ -21,9 +21,16 @@ pub(crate) struct ScheduleText<'a> {
         shared.now.lists.items } by { Prim.hlevel (props, IsNormal-prop) },
 }
 
-impl DirectionLines for ScheduleText<'_> {
-    ghost are_lines = { λ text _. AreLines text.found.now text.lines.now.schedule.vehicle
-        text.lines.now.schedule.horizon };
+/// The lines of an element with these hashes.
+#[derive(Clone, Copy)]
+struct ElementText<'a> {
+    text: ScheduleText<'a>,
+    hashes: Hashes,
+}
+
+impl DirectionLines for ElementText<'_> {
+    ghost are_lines = { λ own _. AreLines own.text.found.now own.text.lines.now.schedule.vehicle
+        own.text.lines.now.schedule.horizon };
 
     fn put_direction<O: Output>(
         &self,
@@ -32,26 +39,17 @@ impl DirectionLines for ScheduleText<'_> {
         _found: &Records,
         at: DirectedElement,
     ) -> Result<(), Stop> {
-        let schedule = self.lines.schedule;
-        let job = Job {
-            found: self.found,
-            schedule,
-        };
-        if let Some(open) = spans_for(job, self.shared, at) {
+        let (lines, found) = (self.text.lines, self.text.found);
+        let schedule = lines.schedule;
+        let job = Job { found, schedule };
+        if let Some(open) = spans_for(job, self.text.shared, at, self.hashes) {
             let mut spans = open.source();
-            return put_direction_spans(output, printer, self.found, at, self.lines, &mut spans);
+            return put_direction_spans(output, printer, found, at, lines, &mut spans);
         }
         let (element, direction) = (at.element, at.direction);
         let (vehicle, horizon) = (schedule.vehicle, schedule.horizon);
-        let mut spans = open_seconds(
-            printer.alloc,
-            self.found,
-            element,
-            direction,
-            vehicle,
-            horizon,
-        )?;
-        put_direction_spans(output, printer, self.found, at, self.lines, &mut spans)
+        let mut spans = open_seconds(printer.alloc, found, element, direction, vehicle, horizon)?;
+        put_direction_spans(output, printer, found, at, lines, &mut spans)
     }
 }
 
@@ -70,14 +68,25 @@ impl ElementLines for ScheduleText<'_> {
             found: self.found,
             schedule: self.lines.schedule,
         };
-        let Some(own) = own_spans(printer.alloc, job, self.shared, element)? else {
-            return put_both(output, printer, found, element, self);
+        let hashes = hashes_of(job, element);
+        let Some(own) = own_spans(printer.alloc, job, self.shared, element, hashes)? else {
+            let text = ElementText {
+                text: *self,
+                hashes,
+            };
+            return put_both(output, printer, found, element, &text);
         };
         let text = ScheduleText {
             lines: self.lines,
             found: self.found,
             shared: &own,
         };
-        put_both(output, printer, found, element, &text)
+        put_both(
+            output,
+            printer,
+            found,
+            element,
+            &ElementText { text, hashes },
+        )
     }
 }

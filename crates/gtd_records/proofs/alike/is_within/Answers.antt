@@ -11,10 +11,10 @@ use Rattle.gtd_records.proofs.alike.is_within.Goals.{else-concerns-via-else-conc
 pub loop-place-preserved : goal.loop-place-preserved
 loop-place-preserved c =
     let rows = c.args.found.now in
-    let part = c.places_of_element-part.result.now in
-    let others = c.places_of_element-others.result.now in
+    let part = c.args.one.places.now in
+    let others = c.args.other.places.now in
     let i = c.loop-place.place-index in
-    let there = (c.places_of_element-part.ensures.places.sound i nowhere c.loop-place-test.true).0 in
+    let there = c.requires.one i nowhere c.loop-place-test.true in
     let s = c.index-rows-place.result in
     let stands = subst (λ (l : List Restriction). s ≡ slice_index_or l (slice_index_or part i nowhere).row s)
     c.rows.ensures.rows c.index-rows-place.is in

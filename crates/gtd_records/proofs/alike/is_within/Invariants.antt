@@ -1,4 +1,4 @@
-use Rattle.gtd_records.proofs.AlikeFacts.{AreCovered}
+use Rattle.gtd_records.specs.Alike.{AreCovered}
 use Rattle.gtd_records.proofs.alike.is_within.Given as goal
 
 -- the rows so far that close the one have others of the same domains
