@@ -1,5 +1,5 @@
 -- The lines of days.
-use Rattle.std.proofs.Common.{◌≡◌, ◌∙◌, sym, ap, refl, subst, ◌≤◌, ◌+◌, ◌*◌, ◌-◌, ◌↔◌, ℕ, zero, suc, arith, List, [], ◌∷◌}
+use Rattle.std.proofs.Common.{◌≡◌, ◌∙◌, sym, ap, refl, ◌≤◌, ◌*◌, ◌-◌, ◌↔◌, ℕ, zero, suc, arith, List, ◌∷◌}
 use Rattle.std.proofs.Common.{◌++◌, length, length-append, append_assoc, take}
 use Rattle.std.specs.Prelude.{ℤ, pos, ◌+ℤ◌, ◌*ℤ◌, ◌≤ℤ◌, ◌<ℤ◌, decimal, codes, replicate, All}
 use Rattle.std.proofs.lemmas.Int.{ints}
@@ -7,10 +7,7 @@ use Rattle.std.proofs.lemmas.List.{length-replicate, take_all}
 use Rattle.std.proofs.lemmas.List.Elements.{All-cons, All-nil}
 use Rattle.std.proofs.lemmas.Fmt.{length-decimal-le}
 use Rattle.gtd_calendar.specs.Stamp.{date_text}
-use Rattle.gtd_core.specs.Seconds.{Interval}
-use Rattle.gtd_spans.specs.Counting.{IsCount}
-use Rattle.gtd_spans.specs.Normal.{Holds}
-use Rattle.gtd_spans.specs.facts.CountFacts.{count-few, count-held, count-same, one-count}
+use Rattle.gtd_spans.specs.facts.CountFacts.{count-few, count-same, one-count}
 use Rattle.gtd_report.specs.Putting.{text_of}
 use Rattle.gtd_year.specs.YearTable.{AreDayLines, day_line, right_aligned}
 
@@ -26,27 +23,6 @@ length-day_line day count few =
     simp (length-append, length-replicate) (omega arith)
 
 module _ (set : ℤ → Type 0) where
-  pub no_days : (day : ℤ) → AreDayLines set day 0 []
-  unfolding AreDayLines
-  no_days day = refl
-
-  one_day : (day : ℤ) (count : ℕ) → IsCount set (day *ℤ pos 86400) 86400 count → AreDayLines set day 1 (day_line day count ∷ [])
-  unfolding AreDayLines
-  one_day day count is = (count, [], is, refl, refl)
-
-  -- the lines of some days, and of the days after them
-  days_then : (day next : ℤ) (n m : ℕ) (a b : List (List ℕ)) → next ≡ day +ℤ pos n → AreDayLines set day n a
-      → AreDayLines set next m b → AreDayLines set day (n + m) (a ++ b)
-  unfolding AreDayLines
-  days_then day next zero m a b e p q =
-      let same : next ≡ day = omega (arith, ints, e) in
-      let none : 0 + m ≡ m = omega arith in
-      rw (none, p, ← same) q
-  days_then day next (suc n) m a b e p q =
-      let r = days_then (day +ℤ pos 1) next n m p.1 b (omega (arith, ints, e)) p.3 q in
-      let k : suc n + m ≡ suc (n + m) = omega arith in
-      rw k (p.0, p.1 ++ b, p.2, r, ap (λ (l : List (List ℕ)). l ++ b) p.4)
-
   -- days have one list of lines
   pub one_table : (day : ℤ) (n : ℕ) (a b : List (List ℕ)) → AreDayLines set day n a → AreDayLines set day n b → a ≡ b
   unfolding AreDayLines
@@ -75,15 +51,6 @@ module _ (set : ℤ → Type 0) where
   each_line day (suc n) a p =
       let one = length-day_line day p.0 (count-few set (day *ℤ pos 86400) 86400 p.0 p.2) in
       rw (p.4) (All-cons (λ (line : List ℕ). length line ≡ 17) (day_line day p.0) p.1 one (each_line (day +ℤ pos 1) n p.1 p.3))
-
--- the days of a list of spans have lines
-pub held_days : (xs : List Interval) (day : ℤ) (n : ℕ) → (lines : List (List ℕ)) × AreDayLines (Holds xs) day n lines
-unfolding AreDayLines
-held_days xs day zero = ([], refl)
-held_days xs day (suc n) =
-    let r = held_days xs (day +ℤ pos 1) n in
-    let c = count-held xs (day *ℤ pos 86400) 86400 in
-    (day_line day c.0 ∷ r.0, (c.0, r.0, c.1, r.1, refl))
 
 -- sets that have the same seconds on those days have the same lines
 pub same_days : (one two : ℤ → Type 0) (day : ℤ) (n : ℕ) (lines : List (List ℕ))
@@ -119,26 +86,3 @@ made_line day count m digits one two three four five few d a b long e f g =
     ∙ ap (λ (x : List ℕ). ((date_text day ++ codes " ") ++ replicate (5 - length (decimal count)) 32) ++ x) d
     ∙ append_assoc (date_text day ++ codes " ") (replicate (5 - length (decimal count)) 32) (decimal count) in
     g ∙ ap (λ (x : List ℕ). x ++ codes "\n") q
-
--- the lines of one day more
-pub one_more : (all now : List Interval) (first day : ℤ) (place count : ℕ) (done : List (List ℕ)) (line : List ℕ)
-    → day ≡ first +ℤ pos place → AreDayLines (Holds all) first place done
-    → ((t : ℤ) → ((first +ℤ pos place) *ℤ pos 86400) ≤ℤ t → Holds all t ↔ Holds now t)
-    → IsCount (Holds now) (day *ℤ pos 86400) 86400 count → line ≡ day_line day count
-    → AreDayLines (Holds all) first (place + 1) (done ++ (line ∷ []))
-one_more all now first day place count done line is are same counted made =
-    rw made (days_then (Holds all) first day place 1 done (day_line day count ∷ []) is are
-    (one_day (Holds all) day count
-    (count-same (Holds now) (Holds all) (day *ℤ pos 86400) 86400 count
-    (λ t a. let b = same t (omega (arith, ints, is, a.0)) in (b.1, b.0)) counted)))
-
--- the lines of the days so far, and of all
-pub whole_table : (all : List Interval) (first : ℤ) (place days : ℕ) (done : List (List ℕ)) → place ≤ days
-    → AreDayLines (Holds all) first place done → (more : List (List ℕ)) × AreDayLines (Holds all) first days (done ++ more)
-whole_table all first place days done few are =
-    let next : ℤ = first +ℤ pos place in
-    let more = held_days all next (days - place) in
-    let n : place + (days - place) ≡ days = omega arith in
-    let r : AreDayLines (Holds all) first (place + (days - place)) (done ++ more.0) =
-    days_then (Holds all) first next place (days - place) done more.0 refl are more.1 in
-    (more.0, subst (λ (k : ℕ). AreDayLines (Holds all) first k (done ++ more.0)) n r)

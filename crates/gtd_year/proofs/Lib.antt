@@ -2,4 +2,6 @@
 pub mod DayFacts
 pub mod SomeTable
 pub mod YearFacts
+pub mod WeeklyFacts
+pub mod CountLists
 pub mod ClaimFacts

@@ -1,6 +1,8 @@
 -- The table of a year, from the normal list of its open seconds.
 use Rattle.std.proofs.Common.{◌≡◌, ◌∙◌, ◌-ℤ◌, subst, ℕ, List, FitsSigned, to_z, of_z, w64, to_z-of_z, unsigned_abs}
+use Rattle.std.proofs.Common.{arith, ◌↔◌}
 use Rattle.std.specs.Prelude.{ℤ, pos, ◌+ℤ◌}
+use Rattle.std.proofs.lemmas.Int.{ints}
 use Rattle.gtd_calendar.specs.Calendar.{first_day, year_length}
 use Rattle.gtd_calendar.specs.facts.YearDays.{days_between, year_length-few}
 use Rattle.gtd_core.specs.Seconds.{Interval}
@@ -8,6 +10,7 @@ use Rattle.gtd_core.specs.Whole.{from_day, to_day}
 use Rattle.gtd_core.specs.declared.horizon.Horizon.{Horizon}
 use Rattle.gtd_eval.specs.Membership.{IsNormalOver}
 use Rattle.gtd_spans.specs.Normal.{Holds}
+use Rattle.gtd_year.specs.Counts.{RepeatsWeekly}
 use Rattle.gtd_year.specs.YearTable.{AreDayLines}
 use Rattle.gtd_year.proofs.DayFacts.{same_days}
 
@@ -42,3 +45,24 @@ days_put set horizon list seconds first next year lines from_fits to_fits normal
     let to = to_z-of_z to_fits ∙ ends ∙ stops in
     let count = days_between (first_day (pos year)) _ (year_length (pos year)) (year_length-few (pos year)) to in
     year_table set horizon list seconds _ _ year lines normal is begins stops from (rw from count) are
+
+-- where the set repeats after a week, the days do that were put
+pub weekly_put : (set : ℤ → Type 0) (horizon : Horizon) (list seconds : List Interval) (first next : ℤ) (year : ℕ)
+    → FitsSigned w64 first → FitsSigned w64 next
+    → IsNormalOver set horizon list → seconds ≡ list → first ≡ from_day horizon → next ≡ to_day horizon
+    → from_day horizon ≡ first_day (pos year) → to_day horizon ≡ first_day (pos year) +ℤ pos (year_length (pos year))
+    → ((t : ℤ) → set t ↔ set (t +ℤ pos 604800))
+    → RepeatsWeekly (Holds seconds) (to_z w64 (of_z w64 first))
+    (unsigned_abs (to_z w64 (of_z w64 (to_z w64 (of_z w64 next) -ℤ to_z w64 (of_z w64 first)))))
+weekly_put set horizon list seconds first next year from_fits to_fits normal is starts ends begins stops same =
+    let from : to_z w64 (of_z w64 first) ≡ first_day (pos year) = to_z-of_z from_fits ∙ starts ∙ begins in
+    let to = to_z-of_z to_fits ∙ ends ∙ stops in
+    let count = days_between (first_day (pos year)) _ (year_length (pos year)) (year_length-few (pos year)) to in
+    rw (from, count, is) (λ t low high. (
+      (λ h.
+          let i = normal.inside t h in
+          normal.complete (t +ℤ pos 604800) (omega (arith, ints, i.0), rw stops high, (same t).0 i.2)),
+      (λ h.
+          let i = normal.inside (t +ℤ pos 604800) h in
+          normal.complete t (rw begins low, omega (arith, ints, i.1), (same t).1 i.2)),
+    ))

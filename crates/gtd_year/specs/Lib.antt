@@ -1,3 +1,4 @@
+pub mod Counts
 pub mod YearTable
 pub mod Theorem
 pub use Rattle.gtd_calendar.specs.Calendar

@@ -3,6 +3,8 @@
 
 pub use run::{YearTable, run_year};
 
+mod counts;
 pub mod laws;
 mod run;
 mod table;
+mod weekly;

@@ -7,7 +7,9 @@ ghost use Rattle.gtd_report.specs.Run.{HasRun, failures_after_read, failures_aft
 ghost use Rattle.gtd_year.specs.Theorem.{YearClaim};
 ghost use Rattle.gtd_year.specs.YearTable.{IsYearTable};
 
+use crate::counts::counts_of;
 use crate::table::put_days;
+use crate::weekly::is_open_weekly;
 use gtd_calendar::days_of_year;
 use gtd_devices::{Input, Output};
 use gtd_records::{Direction, RecordFault, Records, open_seconds};
@@ -61,7 +63,9 @@ impl Report for YearTable {
         let mut seconds = ByDay::new(open);
         let first = days.from_day();
         let count = (days.to_day() - first) as u16;
-        put_days(output, printer, &mut seconds, first, count)?;
+        let weekly = is_open_weekly(found, self.element);
+        let counts = counts_of(printer.alloc, &mut seconds, first, count, weekly)?;
+        put_days(output, printer, counts.as_slice(), first, count)?;
         finish(output)
     }
 }
