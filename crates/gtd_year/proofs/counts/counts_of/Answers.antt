@@ -26,7 +26,8 @@ loop-place-preserved g c =
     let l = length-append counts (count ∷ []) in
     record {
       many = rw (c.in_ok-push.ensures.items) (omega (arith, l, i.many));
-      are = rw (same, c.in_ok-push.ensures.items) (counts_more set c.args.first place count counts i.many (rw (← at) counted) are);
+      are = rw (same, c.in_ok-push.ensures.items)
+          (counts_more set c.args.first place count counts i.many (rw (← at) counted) are);
       left = rw same (λ t h.
           let p = left t (omega (arith, signed_arith, h)) in
           let q = c.count_of-count.ensures.later t (omega (arith, signed_arith, h)) in
