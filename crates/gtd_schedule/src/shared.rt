@@ -91,6 +91,12 @@ pub(crate) fn hashes_of(job: Job<'_>, element: u64) -> Hashes {
     }
 }
 
+// Whether the spans of the one would be found for the other. An element with very many rows is not compared with any, itself
+// included.
+fn is_comparable(job: Job<'_>, one: DirectedElement, other: DirectedElement) -> bool {
+    are_closed_alike(job.found, one, other, job.schedule.vehicle)
+}
+
 // Keeps the spans of an element in a direction, if another one with the same hash was seen before.
 fn keep(
     alloc: Global,
@@ -103,7 +109,7 @@ fn keep(
     ensures right { OnOk result (AreRight job.entry.found.now job.entry.schedule.vehicle job.entry.schedule.horizon
         shared.new.lists.items) }
 {
-    if !shared.places.is_seen_again(hash) {
+    if !shared.places.is_seen_again(hash) || !is_comparable(job, at, at) {
         return Ok(());
     }
     let most = shared.places.room();
@@ -184,7 +190,10 @@ pub(crate) fn own_spans(
     if hash == 0 || hash != hashes.negative || shared.places.list_of(hash).is_some() {
         return Ok(None);
     }
-    let (positive, _) = directions_of(element);
+    let (positive, negative) = directions_of(element);
+    if !is_comparable(job, positive, negative) {
+        return Ok(None);
+    }
     let Some(known) = spans_of(alloc, job, positive, MOST_OF_AN_ELEMENT)? else {
         return Ok(None);
     };
