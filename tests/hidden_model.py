@@ -87,8 +87,7 @@ def hiding_rules(rules):
 
 def with_comma(text, number):
     """The text with a comma in place of the semicolon before a rule, written strictly. Where the rule before is open and ends
-    with selectors, a word keeps the comma from going on with them. Ends on the next day stay as they are written, and a date with a
-    year has both ends."""
+    with selectors, a word keeps the comma from going on with them. Ends on the next day stay as they are written."""
     rules = read(text)
     parts = text.split(";")
     place = sum(not rule.adds for rule in rules[1:number + 1])
@@ -96,7 +95,6 @@ def with_comma(text, number):
     word = " open" if before.opens and not has_times(before) else ""
     joined = ";".join(parts[:place]) + word + "," + ";".join(parts[place:])
     form = hours_model.print_rules(hours_model.read(joined.encode()))
-    form = re.sub(r"(?<!-)\b([0-9]{4} [A-Z][a-z]{2} [0-9]{1,2})\b(?!-[0-9]{4} )", r"\1-\1", form)
     return re.sub("-([0-9]{2}):", lambda end: end[0] if end[0] in text else f"-{int(end[1]) - 24:02}:", form)
 
 
