@@ -20,7 +20,7 @@ use Rattle.gtd_recur.specs.ClockSearch.{IsLatestBegin}
 use Rattle.gtd_recur.specs.Membership.{InStretches}
 use Rattle.gtd_recur.specs.facts.MembershipLemmas.{from_computed, to_computed}
 use Rattle.gtd_recur.specs.Changes.{IsStretchEnd}
-use Rattle.gtd_recur.specs.ComputedStretches.{IsHeldFromDay, IsLatestNotAfter}
+use Rattle.gtd_recur.specs.ComputedStretches.{IsHeldFromDay, IsHeldFromDays, IsLatestNotAfter}
 use borrow.Author.Differences.{up, down, true_is_lt}
 
 pub begins-parts : (p : StartParts) (b : ℤ) → begins p b ≡ true → (begins_on p (day_fields (day_of_second b)) ≡ true)
@@ -140,6 +140,20 @@ latest_before p n s (Some k) lt h =
   where
     after : (s n m : ℤ) (i k : ℕ) → s ≡ pos 86400 *ℤ m +ℤ pos i → n <ℤ m → k ≤ 86399 → (pos 86400 *ℤ n +ℤ pos k) ≤ℤ s
     after s n m i k e lt le = omega (arith, signed_arith)
+
+-- no stretch from an earlier day holds a second if the last one of a day ends on it
+pub ends-on-day : (p : StartParts) (q : DurationParts) (low s : ℤ) (k : ℕ) → IsLatestBegin p last_second_of_day (Some k)
+    → (pos k +ℤ pos (bound_of q)) ≤ℤ pos 86400 → IsHeldFromDays p q low (day_of_second s) s → ⊥
+ends-on-day p q low s k latest ends (m, from, before, held) =
+    let at = started p q m s held in
+    let here = second-parts s in
+    let none : ¬ (k < second_of_day held.0) = λ lt. both_ways _ (latest.2 (second_of_day held.0) lt (omega (arith, at.1))) at.4 in
+    past s held.0 (stop q held.0) m (day_of_second s) (second_of_day held.0) k (bound_of q) (second_of_day s) here.0 before at.0
+    none held.2.2 (stop-bound q held.0).1 ends
+  where
+    past : (s b e m n : ℤ) (j k bound i : ℕ) → s ≡ pos 86400 *ℤ n +ℤ pos i → m <ℤ n → b ≡ pos 86400 *ℤ m +ℤ pos j → ¬ (k < j)
+        → s <ℤ e → e ≤ℤ (b +ℤ pos bound) → (pos k +ℤ pos bound) ≤ℤ pos 86400 → ⊥
+    past s b e m n j k bound i is before begun none lt reach ends = omega (arith, signed_arith)
 
 -- the days of the seconds that horizons have
 pub horizon-day : (s : ℤ) → IsHorizonSecond s → (first_horizon_day ≤ℤ day_of_second s) × (day_of_second s ≤ℤ pos 266626)

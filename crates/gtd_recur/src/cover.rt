@@ -72,6 +72,18 @@ fn end_from_before(
     end_from_day(start, duration, second, look.first, latest)
 }
 
+// Whether each stretch ends on the day on which it begins, as those of `(h10){h4}` do: then no day before a second matters.
+fn ends_on_its_day(start: &StartParts, duration: &Duration) -> bool
+    requires valid { IsStart start.now }
+    ensures past { IsTrue result → (low s : ℤ)
+        → IsHeldFromDays start.now (duration_parts duration.now) low (day_of_second s) s → ⊥ }
+{
+    match latest_begin(start, LAST_SECOND_OF_DAY) {
+        None => false,
+        Some(last) => i64::from(last) + duration.bound() <= DAY_SECONDS,
+    }
+}
+
 /// The end of a stretch that holds the second, however long ago it began; `None` if none holds it. Of those that hold it, it is
 /// one that began last or the day before.
 pub(crate) fn stretch_end(basic: &Basic, second: Sec) -> Option<Sec>
@@ -84,6 +96,9 @@ pub(crate) fn stretch_end(basic: &Basic, second: Sec) -> Option<Sec>
     let latest = latest_begin(&start, second_of_day(second));
     if let Some(end) = end_from_day(&start, &basic.duration, second, today, latest) {
         return Some(end);
+    }
+    if ends_on_its_day(&start, &basic.duration) {
+        return None;
     }
     let low = today - i64::from(basic.duration.lookback());
     end_from_before(&start, &basic.duration, second, low, today)

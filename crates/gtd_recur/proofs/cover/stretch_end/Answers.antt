@@ -20,6 +20,20 @@ end_from_day-requires-clause-latest c =
 pub returns-in-Some : goal.returns-in-Some
 returns-in-Some c = record { end = rw (c.parts-start.ensures.value) at c.in-Some.ensures.end }
 
+pub returns-then-ends_on_its_day : goal.returns-then-ends_on_its_day
+returns-then-ends_on_its_day c =
+    let p = start_parts c.args.basic.now.start in
+    let q = duration_parts c.args.basic.now.duration in
+    let fits : FitsSigned w64 c.day-today.result = search rules in
+    let today : to_z w64 (of_z w64 c.day-today.result) ≡ day_of_second c.args.second.0 =
+    to_z-of_z fits ∙ c.day-today.ensures.value in
+    let here = rw (c.parts-start.ensures.value, today) at c.in_default.ensures.end in
+    let past = rw (c.parts-start.ensures.value) at c.ends_on_its_day.ensures.past in
+    record {
+      end = λ member. past c.if-ends_on_its_day.true _ c.args.second.0
+          (held-anywhere p q _ c.args.second.0 refl member here);
+    }
+
 pub returns : goal.returns
 returns c =
     let p = start_parts c.args.basic.now.start in

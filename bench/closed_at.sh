@@ -1,0 +1,5 @@
+#!/usr/bin/env bash
+# What a question of `Records::closed_at` takes, beside a plain native table of the same file: bench/closed_at.py says more.
+. "$(dirname "$0")/build.sh"
+build closed_at gtd_core gtd_devices gtd_records
+"$top/bench/closed_at.py" "$program"
