@@ -1,5 +1,5 @@
 #!/usr/bin/env bash
-# The opening hours of tests/hours/texts.csv by KOpeningHours, a library of KDE, beside the plain model of tests/hours_model.py.
+# The opening hours of tests/hours by KOpeningHours, a library of KDE, beside the plain models of this project.
 # bench/kopeninghours/README.md explains what differs. It is no test of this project, and the gate does not run it.
 #
 # Needs g++, pkg-config, python3, and Debian's packages libkopeninghours-dev (22.12) and qtbase5-dev.

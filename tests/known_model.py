@@ -31,6 +31,14 @@ class EasterRange(NamedTuple):
     place: int
 
 
+class EveryYears(NamedTuple):
+    """Every so many years from a first one up to the last that is known: more of the calendar than a domain has. The place is that
+    of its slash."""
+    first: int
+    step: int
+    place: int
+
+
 class Uncovered(Exception):
     """The place of a holiday, and the first day of the years that the table does not cover."""
 
@@ -219,6 +227,18 @@ class Reader(hours_model.Reader):
             self.refuse()
         return super().moved(items)
 
+    def years(self):
+        at = self.at
+        try:
+            return super().years()
+        except Fault as fault:
+            if fault.args[0] != "Years":
+                raise
+        self.at = at
+        first, place = self.year(), self.found[self.at].place
+        self.take("/")
+        return [EveryYears(first, self.number([1, 2, 3, 4], 1, 9999), place)]
+
     def days(self, kinds):
         """Holidays, which restrict weekdays directly behind them; or one list of holidays and weekdays."""
         items = self.listed(self.day_item, lambda: self.peek(1) in ("weekday", "holiday")) if self.peek() in ("weekday", "holiday") else []
@@ -248,11 +268,11 @@ class Reader(hours_model.Reader):
 
 def listed_in(rule):
     """The selectors of a rule that are known in some years alone, from left to right."""
-    return [item for items in rule.kinds.values() for item in items if isinstance(item, (Holiday, EasterRange))]
+    return [item for items in rule.kinds.values() for item in items if isinstance(item, (EveryYears, Holiday, EasterRange))]
 
 
-def is_of_easter(item):
-    return isinstance(item, EasterRange) or item.kind == "easter"
+def needs_no_table(item):
+    return not isinstance(item, Holiday) or item.kind == "easter"
 
 
 def read(text, table, years):
@@ -269,7 +289,7 @@ def read(text, table, years):
         if years is None:
             raise Fault("Years", item.place)
     for item in placed:
-        day = None if is_of_easter(item) else holidays_model.first_uncovered(table, item.kind, *years)
+        day = None if needs_no_table(item) else holidays_model.first_uncovered(table, item.kind, *years)
         if day is not None:
             raise Uncovered(item.place, day)
     return [rule._replace(kinds={kind: known(items, table, years) for kind, items in rule.kinds.items()}) for rule in rules]
@@ -277,7 +297,7 @@ def read(text, table, years):
 
 def is_uncovered(item, table):
     """Whether a table is needed for a holiday, and there is none or it covers no day of the kind."""
-    return not is_of_easter(item) and (table is None or (item.kind, True) not in {row[2:] for row in table})
+    return not needs_no_table(item) and (table is None or (item.kind, True) not in {row[2:] for row in table})
 
 
 def days_in(item, table, years):
@@ -292,8 +312,16 @@ def days_in(item, table, years):
     return holidays_model.holidays(table, item.kind, item.offset, *years)
 
 
+def up_to_last(item, years):
+    """A selector, with years up to the last that is known as a range, or none if they begin after it."""
+    if not isinstance(item, EveryYears):
+        return [item]
+    return [("years", item.first, years[1], item.step)] if item.first <= years[1] else []
+
+
 def known(items, table, years):
     """Selectors, with the days of holidays in the years as ranges of dates."""
+    items = [found for item in items for found in up_to_last(item, years)]
     days = set()
     for item in items:
         if isinstance(item, (Holiday, EasterRange)):

@@ -33,10 +33,12 @@ FRONTS += ["Mar Su[-1]-Oct Su[1]", "Oct 15-Dec Su[1],Jan 6", "Dec 24,Mar Su[-1] 
 FRONTS += ["2025 Sep Fr[2] -3 days-Apr Mo[1]", "2025-2026 Oct Sa[2]-Jan 3", "easter", "easter -2 days,easter +1 day"]
 FRONTS += ["Dec 24,easter +49 days,Jan 6", "2025,2026,easter:", "easter-Oct 31", "Jan 6-easter -47 days,2026 easter", "2025,2026 easter"]
 FRONTS += ["Nov 1-easter", "Mar Su[-1]-easter +50 days", "2026 easter -2 days-2026 easter +1 day", "2025 easter-Oct 3,Dec 24:"]
+FRONTS += ["2025/2", "2025,2026/3:", "1801/2,2024 Dec 24", "2027/6 week 10", "2026/4 easter"]
 TIMES = ["", "10:00-12:00", "22:00-04:00", "08:00-09:00,22:00-02:00"]
 WORDS = DAYS + ["SH +1 day", "PH +0 days", "PH +Mo", "PH +1", ",", ";", ":", "-", "+", "24/7", "[", "]", "1", "off", "open", "easter"]
 WORDS += ["Dec", "2025", "10:00-12:00", ",PH", ",SH", "PH,SH", "Mo,"]
 WORDS += ["Su[1]", "Su[-1]-", "-Oct", "Mar Su[-1]-Oct Su[1]", "24-Jun Fr[2]", "easter +Mo", "easter +1", "-easter", "2026 easter", "easter-", "easter -Mo"]
+WORDS += ["2025/2", "/2", "/8", ",2026/3"]
 
 
 def run(text, table, years):

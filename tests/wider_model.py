@@ -148,7 +148,7 @@ def read(text, table, years, options):
     rules = [rule._replace(times=[pair for item in rule.times for pair in ranges(item, options)]) for rule in rules]
     for rule in rules:
         for item in known_model.listed_in(rule):
-            day = None if known_model.is_of_easter(item) else holidays_model.first_uncovered(table, item.kind, *years)
+            day = None if known_model.needs_no_table(item) else holidays_model.first_uncovered(table, item.kind, *years)
             if day is not None:
                 raise Uncovered(item.place, day)
     return [rule._replace(kinds={kind: known_model.known(items, table, years) for kind, items in rule.kinds.items()})
@@ -160,7 +160,8 @@ def ranges(item, options):
 
 
 def first_holiday(text):
-    """The place of the first holiday, or Easter without a year, of a text that is no plain hours, or None."""
+    """The place of the first holiday, Easter without a year, or slash of years up to the last that is known, of a text that is no
+    plain hours, or None."""
     if plain(text) is not None:
         return None
     rules = Reader(tokens(text), len(text)).hours()
@@ -168,9 +169,7 @@ def first_holiday(text):
 
 
 def whole_days(text):
-    """Where the rules begin that say days alone. A text with parentheses is not looked through."""
-    if b"(" in COMMENT.sub(b"", text):
-        return []
+    """Where the rules begin that say days alone."""
     reader = Reader(tokens(text), len(text))
     reader.hours()
     return reader.whole_days

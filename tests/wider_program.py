@@ -1,8 +1,8 @@
 #!/usr/bin/env python3
 """The built program `gtdesk hours` with all its options beside the plain models of hours and of domains.
 
-For each row of moving.csv, easter.csv, remarks.csv and moments.csv in tests/hours, the domain that is printed contains the same
-minutes of four years as the hours by tests/wider_model.py, and as the domain beside them, and its warnings are told; or its
+For each row of moving.csv, easter.csv, years.csv, remarks.csv and moments.csv in tests/hours, the domain that is printed contains
+the same minutes of four years as the hours by tests/wider_model.py, and as the domain beside them, and its warnings are told; or its
 fault is. Then, for SECONDS, drawn texts, tables, years and options: rules with holidays, moments and comments, unknown rules
 and fallback rules. The domains are compared at the first and the last minutes of stretches and at random seconds, and the
 faults of texts that are damaged or for which not all is given. The text that `gtdesk mend hours` prints means the same, and
@@ -173,5 +173,5 @@ def check_drawn(chance, folder):
 
 
 if __name__ == "__main__":
-    worked_rows = hours.rows_of("moving.csv") + hours.rows_of("easter.csv") + hours.rows_of("remarks.csv") + hours.rows_of("moments.csv")
+    worked_rows = [row for name in ("moving", "easter", "years", "remarks", "moments") for row in hours.rows_of(f"{name}.csv")]
     sys.exit(known_program.tried("wider_program", worked_rows, check_row, check_drawn, 6))
