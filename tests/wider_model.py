@@ -168,9 +168,7 @@ def first_holiday(text):
 
 
 def whole_days(text):
-    """Where the rules begin that say days alone. A text with parentheses is not looked through."""
-    if b"(" in COMMENT.sub(b"", text):
-        return []
+    """Where the rules begin that say days alone."""
     reader = Reader(tokens(text), len(text))
     reader.hours()
     return reader.whole_days
