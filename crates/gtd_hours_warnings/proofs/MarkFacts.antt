@@ -1,15 +1,18 @@
--- What remarks, rules that are not known and years add to the warnings of a text.
-use Rattle.std.proofs.Common.{◌≡◌, ◌+◌, ◌≤◌, sym, ap, subst, arith, ℕ, suc, List, ◌∷◌, length, take}
+-- What remarks, rules that are not known, rules that say days alone and years add to the warnings of a text.
+use Rattle.std.proofs.Common.{◌≡◌, ◌∙◌, ◌+◌, ◌≤◌, sym, ap, subst, arith, ℕ, suc, List, ◌∷◌, length, take}
 use Rattle.std.specs.Prelude.{OnOk, Option, Some, Result, Ok, Err}
 use Rattle.std.specs.List.{prefix_len}
 use Rattle.std.proofs.lemmas.List.{take_all}
 use Rattle.gtd_hours_holidays.specs.declared.known_years.KnownYears.{KnownYears}
 use Rattle.gtd_hours_loose.specs.declared.strict.StrictForm.{StrictForm}
+use Rattle.gtd_hours_moments.specs.Reading.{IsMomentText}
+use Rattle.gtd_hours_moments.specs.declared.placed.Placed.{Placed}
+use Rattle.gtd_hours_moments.specs.declared.text.MomentText.{MomentText}
 use Rattle.gtd_hours_warnings.specs.Marks.{AddsNotKnown, AddsRemarks, AddsWholeDays, AddsWholeDaysAt, AddsYears}
 use Rattle.gtd_hours_warnings.specs.Marks.{IsKnownYearsWarning}
 use Rattle.gtd_hours_warnings.specs.Marks.{IsNotKnownWarning, IsRemarkWarning, IsWholeDayWarning, comment_of, is_unquoted}
 use Rattle.gtd_hours_warnings.specs.Warnings.{place_in, put_in, strict_text}
-use Rattle.gtd_hours_warnings.specs.WholeDays.{AreWholeDays}
+use Rattle.gtd_hours_warnings.specs.WholeDays.{ArePlainDays, AreWholeDays, written_places}
 use Rattle.gtd_hours_warnings.specs.declared.warnings.Warning.{Warning}
 
 -- the bytes of a comment up to its second quote
@@ -48,6 +51,15 @@ pub whole_days_left : (text : List ℕ) (form : Option StrictForm) (all more : L
 whole_days_left text form all more place w before after found e is put adds =
     subst (λ (l : List ℕ). AddsWholeDaysAt text form l before found) (sym e)
     (w, is, subst (λ (l : List Warning). AddsWholeDaysAt text form more l found) put adds)
+
+-- the places of rules of the checked text are led back
+pub whole_days_found : (text : List ℕ) (moments : MomentText) (checked plain own found : List ℕ) (forms : List Placed)
+    → IsMomentText text moments → checked ≡ moments.checked.text.items → ArePlainDays checked plain → own ≡ plain
+    → forms ≡ moments.checked.places.items → found ≡ written_places (length text) forms own → AreWholeDays text found
+whole_days_found text moments checked plain own found forms is e days same f led =
+    AreWholeDays.tokens moments plain is (subst (λ (t : List ℕ). ArePlainDays t plain) e days)
+    (led ∙ ap (λ (l : List Placed). written_places (length text) l own) f
+    ∙ ap (written_places (length text) moments.checked.places.items) same)
 
 -- the rules of the strict form are looked through
 pub whole_days_put : {E : Type 0} (text : List ℕ) (form : Option StrictForm) (strict places found : List ℕ)
