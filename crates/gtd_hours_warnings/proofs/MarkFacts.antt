@@ -1,17 +1,18 @@
--- What remarks, rules that are not known and years add to the warnings of a text.
-use Rattle.std.proofs.Common.{◌≡◌, ◌+◌, ◌≤◌, sym, ap, subst, arith, ℕ, suc, List, ◌∷◌, length, take}
+-- What remarks, rules that are not known, rules that say days alone and years add to the warnings of a text.
+use Rattle.std.proofs.Common.{◌≡◌, ◌∙◌, ◌+◌, ◌≤◌, sym, ap, subst, arith, ℕ, suc, List, ◌∷◌, length, take}
 use Rattle.std.specs.Prelude.{OnOk, Option, Some, Result, Ok, Err}
 use Rattle.std.specs.List.{prefix_len}
 use Rattle.std.proofs.lemmas.List.{take_all}
 use Rattle.gtd_hours_holidays.specs.declared.known_years.KnownYears.{KnownYears}
-use Rattle.gtd_hours_holiday_rules.specs.Reading.{IsHolidayText}
-use Rattle.gtd_hours_holiday_rules.specs.declared.text.HolidayText.{HolidayText}
-use Rattle.gtd_hours_items.specs.Comments.{IsBadPlace}
 use Rattle.gtd_hours_loose.specs.declared.strict.StrictForm.{StrictForm}
+use Rattle.gtd_hours_moments.specs.Reading.{IsMomentText}
+use Rattle.gtd_hours_moments.specs.declared.placed.Placed.{Placed}
+use Rattle.gtd_hours_moments.specs.declared.text.MomentText.{MomentText}
 use Rattle.gtd_hours_warnings.specs.Marks.{AddsNotKnown, AddsRemarks, AddsWholeDays, AddsWholeDaysAt, AddsYears}
 use Rattle.gtd_hours_warnings.specs.Marks.{IsKnownYearsWarning}
 use Rattle.gtd_hours_warnings.specs.Marks.{IsNotKnownWarning, IsRemarkWarning, IsWholeDayWarning, comment_of, is_unquoted}
 use Rattle.gtd_hours_warnings.specs.Warnings.{place_in, put_in, strict_text}
+use Rattle.gtd_hours_warnings.specs.WholeDays.{ArePlainDays, AreWholeDays, written_places}
 use Rattle.gtd_hours_warnings.specs.declared.warnings.Warning.{Warning}
 
 -- the bytes of a comment up to its second quote
@@ -51,20 +52,26 @@ whole_days_left text form all more place w before after found e is put adds =
     subst (λ (l : List ℕ). AddsWholeDaysAt text form l before found) (sym e)
     (w, is, subst (λ (l : List Warning). AddsWholeDaysAt text form more l found) put adds)
 
--- the rules of the strict form are looked through
-pub whole_days_read : {E : Type 0} (text : List ℕ) (form : Option StrictForm) (found : HolidayText) (strict places : List ℕ)
-    (result : Result (Unit {0}) E) (before after : List Warning) → strict ≡ strict_text text form
-    → IsHolidayText strict found → places ≡ found.whole_days.items
-    → OnOk result (AddsWholeDaysAt text form places before after) → OnOk result (AddsWholeDays text form before after)
-whole_days_read text form found strict places (Ok done) before after e is same adds =
-    AddsWholeDays.read found (subst (λ (t : List ℕ). IsHolidayText t found) e is)
-    (subst (λ (l : List ℕ). AddsWholeDaysAt text form l before after) same adds)
-whole_days_read text form found strict places (Err why) before after e is same adds = tt
+-- the places of rules of the checked text are led back
+pub whole_days_found : (text : List ℕ) (moments : MomentText) (checked plain own found : List ℕ) (forms : List Placed)
+    → IsMomentText text moments → checked ≡ moments.checked.text.items → ArePlainDays checked plain → own ≡ plain
+    → forms ≡ moments.checked.places.items → found ≡ written_places (length text) forms own → AreWholeDays text found
+whole_days_found text moments checked plain own found forms is e days same f led =
+    AreWholeDays.tokens moments plain is (subst (λ (t : List ℕ). ArePlainDays t plain) e days)
+    (led ∙ ap (λ (l : List Placed). written_places (length text) l own) f
+    ∙ ap (written_places (length text) moments.checked.places.items) same)
 
-pub whole_days_unread : (text : List ℕ) (form : Option StrictForm) (place : ℕ) (strict : List ℕ) (before : List Warning)
-    → strict ≡ strict_text text form → IsBadPlace strict place → AddsWholeDays text form before before
-whole_days_unread text form place strict before e bad =
-    AddsWholeDays.unread place (subst (λ (t : List ℕ). IsBadPlace t place) e bad) (λ i. before)
+-- the rules of the strict form are looked through
+pub whole_days_put : {E : Type 0} (text : List ℕ) (form : Option StrictForm) (strict places found : List ℕ)
+    (result : Result (Unit {0}) E) (before after : List Warning) → strict ≡ strict_text text form → AreWholeDays strict found
+    → places ≡ found → OnOk result (AddsWholeDaysAt text form places before after)
+    → OnOk result (AddsWholeDays text form before after)
+whole_days_put text form strict places found (Ok done) before after e are same adds = record {
+  places = found;
+  are = subst (λ (t : List ℕ). AreWholeDays t found) e are;
+  put = subst (λ (l : List ℕ). AddsWholeDaysAt text form l before after) same adds;
+}
+whole_days_put text form strict places found (Err why) before after e are same adds = tt
 
 pub years_put : {E : Type 0} (place : ℕ) (given : Option KnownYears) (years : KnownYears) (w : Warning)
     (result : Result (Unit {0}) E) (before after : List Warning) → given ≡ Some years → IsKnownYearsWarning place years w

@@ -3,3 +3,4 @@ pub mod Forms
 pub mod Lines
 pub mod Marks
 pub mod Warnings
+pub mod WholeDays

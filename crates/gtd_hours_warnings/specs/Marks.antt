@@ -6,10 +6,8 @@ use Rattle.gtd_hours_holidays.specs.declared.known_years.KnownYears.{KnownYears}
 use Rattle.gtd_hours_known.specs.declared.known.KnownHours.{KnownHours}
 use Rattle.gtd_hours_loose.specs.Mending.{strict_place}
 use Rattle.gtd_hours_loose.specs.declared.strict.StrictForm.{StrictForm}
-use Rattle.gtd_hours_holiday_rules.specs.Reading.{IsHolidayText}
-use Rattle.gtd_hours_holiday_rules.specs.declared.text.HolidayText.{HolidayText}
-use Rattle.gtd_hours_items.specs.Comments.{IsBadPlace}
 use Rattle.gtd_hours_warnings.specs.Warnings.{AddsAllHides, AddsLooseForm, place_in, put_in, strict_text}
+use Rattle.gtd_hours_warnings.specs.WholeDays.{AreWholeDays}
 use Rattle.gtd_hours_warnings.specs.declared.warnings.Warning.{Warning}
 use Rattle.gtd_hours_warnings.specs.declared.warnings.WarningKind.TheVariants as kind
 
@@ -74,11 +72,11 @@ AddsWholeDaysAt text form [] before after = after ≡ before
 AddsWholeDaysAt text form (place ∷ places) before after =
     (w : Warning) × IsWholeDayWarning (place_in text form place) w × AddsWholeDaysAt text form places (put_in w before) after
 
--- Those of the text are; one with parentheses has none.
-pub data AddsWholeDays (text : List ℕ) (form : Option StrictForm) (before after : List Warning) : Type 0 where
-  read : (found : HolidayText) → IsHolidayText (strict_text text form) found
-      → AddsWholeDaysAt text form found.whole_days.items before after → AddsWholeDays text form before after
-  unread : (place : ℕ) → IsBadPlace (strict_text text form) place → after ≡ before → AddsWholeDays text form before after
+-- Those of all such rules of the strict form are.
+pub record AddsWholeDays (text : List ℕ) (form : Option StrictForm) (before after : List Warning) : Type 0 where
+  pub places : List ℕ
+  pub are : AreWholeDays (strict_text text form) places
+  pub put : AddsWholeDaysAt text form places before after
 
 -- ---- holidays
 

@@ -4,6 +4,7 @@
 
 mod commas;
 mod forms;
+pub mod laws;
 mod lines;
 mod marks;
 mod warnings;

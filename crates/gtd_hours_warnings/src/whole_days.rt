@@ -1,13 +1,59 @@
-//! The warnings of rules that say days alone, and behind which a comma begins another rule.
+//! The rules that say days alone, and behind which a comma begins another rule: where they begin, and their warnings.
 
-ghost use Rattle.std.specs.Prelude.{IfOk, OnOk};
+ghost use Rattle.std.specs.Prelude.{◌≡◌, IfOk, OnOk};
 ghost use Rattle.gtd_hours_warnings.specs.Marks.{AddsWholeDays, AddsWholeDaysAt, IsWholeDayWarning};
 ghost use Rattle.gtd_hours_warnings.specs.Warnings.{place_in};
+ghost use Rattle.gtd_hours_warnings.specs.WholeDays.{ArePlainDays, AreWholeDays, written_places};
 
 use crate::warnings::{Warning, WarningKind, place_in, put_in, strict_text};
 use gtd_hours_holiday_rules::{NoHolidayText, holiday_text};
 use gtd_hours_loose::StrictForm;
+use gtd_hours_moments::{NoMomentText, Placed, moment_text, written_place};
 use std::alloc::{AllocError, Global};
+
+// Where such rules begin in a text whose times are all ranges of clock times.
+fn plain_days(alloc: Global, text: &[u8]) -> Result<Vec<usize>, AllocError>
+    ensures { IfOk result (λ places. ArePlainDays text.now places.items) }
+{
+    match holiday_text(alloc, text) {
+        Ok(read) => Ok(read.whole_days),
+        Err(NoHolidayText::BadToken { place: _ }) => Ok(Vec::new(alloc)),
+        Err(NoHolidayText::NoMemory) => Err(AllocError),
+    }
+}
+
+// Where that is written, in a text with so many bytes, for which the forms at these places stand.
+fn written_places(
+    alloc: Global,
+    end: usize,
+    forms: &[Placed],
+    places: &[usize],
+) -> Result<Vec<usize>, AllocError>
+    ensures { IfOk result (λ written. written.items ≡ written_places end forms.now places.now) }
+{
+    let mut written = Vec::new(alloc);
+    let mut rest = places;
+    while let Some((place, later)) = rest.split_first() {
+        written.push(written_place(*place, end, forms))?;
+        rest = later;
+    }
+    Ok(written)
+}
+
+// Where such rules begin in a text that may have other forms of times.
+fn whole_days(alloc: Global, text: &[u8]) -> Result<Vec<usize>, AllocError>
+    ensures { IfOk result (λ places. AreWholeDays text.now places.items) }
+{
+    match moment_text(alloc, text) {
+        Ok(moments) => {
+            let plain = plain_days(alloc, moments.checked.text.as_slice())?;
+            let forms = moments.checked.places.as_slice();
+            written_places(alloc, text.len(), forms, plain.as_slice())
+        }
+        Err(NoMomentText::BadToken { place: _ }) => Ok(Vec::new(alloc)),
+        Err(NoMomentText::NoMemory) => Err(AllocError),
+    }
+}
 
 // The warning of a rule at a place.
 fn whole_day_warning(alloc: Global, place: usize) -> Result<Warning, AllocError>
@@ -50,9 +96,6 @@ pub(crate) fn add_whole_days(
 ) -> Result<(), AllocError>
     ensures { OnOk result (AddsWholeDays text.now form.now warnings.old.items warnings.new.items) }
 {
-    match holiday_text(alloc, strict_text(text, form)) {
-        Ok(read) => add_whole_days_at(alloc, warnings, text, form, read.whole_days.as_slice()),
-        Err(NoHolidayText::BadToken { place: _ }) => Ok(()),
-        Err(NoHolidayText::NoMemory) => Err(AllocError),
-    }
+    let places = whole_days(alloc, strict_text(text, form))?;
+    add_whole_days_at(alloc, warnings, text, form, places.as_slice())
 }
