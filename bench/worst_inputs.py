@@ -371,6 +371,11 @@ def tags_of_ways(folder):
     yield case("an element of 12,000 conditional keys", many, (f"1,{key}:conditional,no @ (24/7)\n" for key in keys))
     value = (MOST_BYTES - 100) // len("no @ (hazmat);")
     yield case("a value of 16 MiB", few, ["1,access:conditional,", "no @ (hazmat);" * value, "\n"])
+    kinds = [(name, f"condition,{name},{n + 1}\n") for n, name in enumerate(modes(99))]
+    apart = folder.file("apart_means", mean + "mode,access,0\n" + "".join(row for _, row in kinds))
+    each = "".join(f"no @ ({name});" for name, _ in kinds)
+    value = each * ((MOST_BYTES - 100) // len(each))
+    yield case("a value of 16 MiB that tells 99 types apart", apart, ["1,access:conditional,", value, "\n"])
     terms = (MOST_BYTES - 100) // len("hazmat AND ")
     yield case("a condition of 16 MiB", few, ["1,access:conditional,no @ (", "hazmat AND " * terms, "hazmat)\n"])
     yield case("a value of 16 MiB of parentheses", few, ["1,access:conditional,no @ ", "(" * (MOST_BYTES - 200), "\n"])
