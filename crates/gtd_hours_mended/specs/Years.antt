@@ -1,5 +1,5 @@
 -- How the years of a rule are written, of which some have no last one: `2024,2025/2`.
-use Rattle.std.specs.Prelude.{ℕ, ◌||◌, ◌++◌, Bool, true, false, List, [], ◌∷◌, codes, decimal, drop, if◌then◌else◌}
+use Rattle.std.specs.Prelude.{ℕ, ◌||◌, ◌++◌, Bool, false, List, [], ◌∷◌, codes, decimal, drop, if◌then◌else◌}
 use Rattle.gtd_hours.specs.Written.{kind_text}
 use Rattle.gtd_hours.specs.declared.hours.Selector.{Selector}
 use Rattle.gtd_hours.specs.declared.hours.Selector.TheVariants as selector
