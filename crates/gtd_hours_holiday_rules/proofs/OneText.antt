@@ -7,7 +7,8 @@ use Rattle.std.proofs.Math.ListN.{length-set}
 use Rattle.gtd_hours_tokens.specs.Lexing.{AreTokens, IsTokenFault, Reads}
 use Rattle.gtd_hours_tokens.specs.facts.TokenForms.{begins_inside, is_language, no_space}
 use Rattle.gtd_hours_tokens.specs.declared.token.Token.{Token}
-use Rattle.gtd_hours_holiday_rules.specs.Checked.{checked_from, checked_text, first_or_space, form_of, put_over, written_over}
+use Rattle.gtd_hours_holiday_rules.specs.Checked.{checked_from, checked_text, first_or_space, form_of, form_place, put_over}
+use Rattle.gtd_hours_holiday_rules.specs.Checked.{written_over}
 use Rattle.gtd_hours_items.specs.Comments.{IsBadPlace, are_whole, is_whole}
 use Rattle.gtd_hours_moving.specs.Moving.{IsMovingFront}
 use Rattle.gtd_hours_moving.specs.declared.front.MovingFront.{MovingFront}
@@ -37,8 +38,8 @@ length-written_over bytes from to (Some form) = length-put_over (to - from) byte
 length-checked_from : (text bytes : List ℕ) (parts : List Part) → length (checked_from text bytes parts) ≡ length bytes
 length-checked_from text bytes [] = refl
 length-checked_from text bytes (p ∷ parts) =
-    length-checked_from text (written_over bytes p.item.from p.item.to (form_of text p.item p.role)) parts
-    ∙ length-written_over bytes p.item.from p.item.to (form_of text p.item p.role)
+    length-checked_from text (written_over bytes (form_place p.role p.item) p.item.to (form_of text p.item p.role)) parts
+    ∙ length-written_over bytes (form_place p.role p.item) p.item.to (form_of text p.item p.role)
 
 pub same_length : (text : List ℕ) (parts : List Part) (read : HolidayText) → HasParts text parts read
     → length read.checked.items ≡ length text

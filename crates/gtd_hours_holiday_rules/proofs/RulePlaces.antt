@@ -22,6 +22,8 @@ HasPlaces rule = (length rule.places ≡ length rule.holidays) × (length rule.e
 
 item_placed : (text : List ℕ) (rule : Said) (r : Role) (item : Item) → HasPlaces rule → HasPlaces (with_item text rule r item)
 item_placed text rule role.Kept item e = e
+item_placed text rule role.Year item e = e
+item_placed text rule (role.Every place) item e = e
 item_placed text rule (role.Leading h) item e = (both_more rule.places rule.holidays item.from h e.0, e.1)
 item_placed text rule (role.Listed h) item e = (both_more rule.places rule.holidays item.from h e.0, e.1)
 item_placed text rule role.Gone item e = e

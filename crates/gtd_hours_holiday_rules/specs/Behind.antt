@@ -95,6 +95,7 @@ after_token b k = b
 
 abbrev pub after_what : Behind → What → Behind
 after_what b (what.Token k) = after_token b k
+after_what b (what.Every place) = after_number b 4
 after_what b w = b
 
 -- Behind an item with this role.
@@ -140,6 +141,7 @@ last_of (what.Holiday h) = last_holiday h
 last_of (what.Dates days) = last.Dates
 last_of (what.NoDates bad by_easter) = last.NoDates bad
 last_of (what.Easter days place) = last_easter days
+last_of (what.Every place) = last.Unfinished
 last_of what.Comment = last.NoComment
 last_of what.Unknown = last.Modifier
 last_of what.Fallback = last.Other

@@ -42,6 +42,7 @@ form_of text item (role.Listed h) = Some (codes "Mo")
 form_of text item (role.Dated days) = Some (dates_form text item)
 form_of text item (role.Known days place) = Some (dates_form text item)
 form_of text item role.Undated = Some (dates_form text item)
+form_of text item (role.Every place) = Some (codes "/9")
 form_of text item role.Doubtful = Some (codes "PH")
 form_of text item role.Misfit = Some (codes "]")
 form_of text item role.Fallback = Some (codes ";")
@@ -55,11 +56,16 @@ abbrev pub written_over : List ℕ → ℕ → ℕ → Option (List ℕ) → Lis
 written_over bytes from to None = bytes
 written_over bytes from to (Some form) = put_over (to - from) bytes from form
 
+-- Where its form begins: of years without a last one it is a slash and a step of which there are few.
+abbrev pub form_place : Role → Item → ℕ
+form_place (role.Every place) item = place
+form_place r item = item.from
+
 -- The bytes with each of the parts of the text written over.
 abbrev pub checked_from : List ℕ → List ℕ → List Part → List ℕ
 checked_from text bytes [] = bytes
 checked_from text bytes (p ∷ parts) =
-    checked_from text (written_over bytes p.item.from p.item.to (form_of text p.item p.role)) parts
+    checked_from text (written_over bytes (form_place p.role p.item) p.item.to (form_of text p.item p.role)) parts
 
 abbrev pub checked_text : List ℕ → List Part → List ℕ
 checked_text text parts = checked_from text text parts

@@ -1,5 +1,5 @@
 -- What becomes of an item, by what stands behind and before it.
-use Rattle.std.specs.Prelude.{ℕ, Bool, true, false, ◌&&◌, ◌||◌, not, List, if◌then◌else◌}
+use Rattle.std.specs.Prelude.{ℕ, Bool, true, false, ◌&&◌, ◌||◌, ◌==◌, not, List, if◌then◌else◌}
 use Rattle.gtd_hours.specs.declared.hours.Link.TheVariants as link
 use Rattle.gtd_hours_days.specs.declared.listed.Listed.{Listed}
 use Rattle.gtd_hours_days.specs.declared.listed.EasterDays.{EasterDays}
@@ -101,11 +101,23 @@ abbrev pub dash_role : Behind → Last → List Item → Role
 dash_role b last.Bracket later = if begins is_month later then role.Misfit else bracket_role b
 dash_role b l later = sign_role b l
 
--- a number: none stands directly behind a range that moves or Easter
-abbrev pub number_role : Last → Role
-number_role last.Dates = role.Misfit
-number_role last.Easter = role.Misfit
-number_role l = role.Kept
+-- a year can begin here: the first one of a rule, or one behind a comma
+abbrev pub takes_year : Behind → Last → Bool
+takes_year behind.Front l = true
+takes_year behind.Years last.Comma = true
+takes_year b l = false
+
+-- a number: none stands directly behind a range that moves or Easter; years have four digits
+abbrev pub number_role : Behind → Last → ℕ → Role
+number_role b last.Dates digits = role.Misfit
+number_role b last.Easter digits = role.Misfit
+number_role b l digits = if takes_year b l && digits == 4 then role.Year else role.Kept
+
+-- years without a last one, which are a number and more where no year can begin
+abbrev pub every_role : Behind → Last → ℕ → Role
+every_role b last.Dates place = role.Misfit
+every_role b last.Easter place = role.Misfit
+every_role b l place = if takes_year b l then role.Every place else role.Kept
 
 -- days of Easter: a dash directly before them goes on with no range
 abbrev pub easter_role : Last → EasterDays → ℕ → Role
@@ -124,7 +136,7 @@ token_role b l (kind.Weekday d) later = weekday_role b l
 token_role b l kind.OpenBracket later = bracket_role b
 token_role b l kind.Plus later = sign_role b l
 token_role b l kind.Dash later = dash_role b l later
-token_role b l (kind.Number v d) later = number_role l
+token_role b l (kind.Number v d) later = number_role b l d
 token_role b l kind.Colon later = colon_role b
 token_role b l k later = role.Kept
 
@@ -154,6 +166,7 @@ role_in p (what.Token k) later = token_role p.behind p.last k later
 role_in p (what.Dates days) later = role.Dated days
 role_in p (what.NoDates bad by_easter) later = role.Undated
 role_in p (what.Easter days place) later = easter_role p.last days place
+role_in p (what.Every place) later = every_role p.behind p.last place
 role_in p what.Comment later = comment_role p.behind p.last
 role_in p what.Fallback later = role.Fallback
 role_in p what.Unknown later = role.UnknownWord

@@ -24,6 +24,8 @@ pub record Said : Type 0 where
   pub dates : List Selector
   pub easter : List EasterDays
   pub easter_places : List ℕ
+  pub every : List Bool
+  pub every_place : Option ℕ
   pub unknown : Option ℕ
   pub remark : Option ℕ
 
@@ -37,6 +39,8 @@ said_by rule = record {
   dates = rule.dates.items;
   easter = rule.easter.items;
   easter_places = rule.easter_places.items;
+  every = rule.every.items;
+  every_place = rule.every_place;
   unknown = rule.unknown;
   remark = rule.remark;
 }
@@ -52,6 +56,8 @@ begun link = record {
   dates = [];
   easter = [];
   easter_places = [];
+  every = [];
+  every_place = None;
   unknown = None;
   remark = None;
 }
@@ -72,10 +78,32 @@ with_easter rule days place =
 abbrev pub with_leading : Said → Listed → ℕ → Said
 with_leading rule h place = record (with_holiday rule h place) { is_led = true }
 
+-- one year more, which ends as it is written
+abbrev pub with_year : Said → List ℕ → Said
+with_year rule bytes = record (with_text rule bytes) { every = rule.every ++ false ∷ [] }
+
+-- the first place that is given
+abbrev pub or_place : Option ℕ → ℕ → Option ℕ
+or_place None place = Some place
+or_place (Some first) place = Some first
+
+-- years without a last one, as far as 2799
+abbrev pub every_text : List ℕ → Item → ℕ → List ℕ
+every_text text item place = stretch text item.from place ++ codes "-2799" ++ stretch text place item.to
+
+-- one list of years more, which has no last one: its slash stands here
+abbrev pub with_every : Said → List ℕ → ℕ → Said
+with_every rule bytes place = record (with_text rule bytes) {
+  every = rule.every ++ true ∷ [];
+  every_place = or_place rule.every_place place;
+}
+
 -- An item with this role goes on with a rule: its bytes and a space (32), its holiday, its range of days that moves, its days of
 -- Easter, or the place where it makes the rule unknown or remarks on it.
 abbrev pub with_item : List ℕ → Said → Role → Item → Said
 with_item text rule role.Kept item = with_text rule (stretch text item.from item.to ++ 32 ∷ [])
+with_item text rule role.Year item = with_year rule (stretch text item.from item.to ++ 32 ∷ [])
+with_item text rule (role.Every place) item = with_every rule (every_text text item place ++ 32 ∷ []) place
 with_item text rule (role.Leading h) item = with_leading rule h item.from
 with_item text rule (role.Listed h) item = with_holiday rule h item.from
 with_item text rule (role.Dated days) item = with_date rule days

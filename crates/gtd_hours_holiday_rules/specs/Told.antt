@@ -21,16 +21,20 @@ use Rattle.gtd_hours_holiday_rules.specs.declared.told.Instead.{Instead}
 use Rattle.gtd_hours_holiday_rules.specs.declared.told.Instead.TheVariants as instead
 use Rattle.gtd_hours_holiday_rules.specs.declared.told.Told.{Told}
 use Rattle.gtd_hours_holiday_rules.specs.Behind.{is_commented}
-use Rattle.gtd_hours_items.specs.Coming.{begins, is_number, is_weekday}
+use Rattle.gtd_hours_items.specs.Coming.{begins, is_weekday}
 
 abbrev pub is_day : What → Bool
 is_day (what.Token kind.Day) = true
 is_day w = false
 
+abbrev pub is_count : What → Bool
+is_count (what.Token (kind.Number value digits)) = true
+is_count w = false
+
 -- a number and `day`
 abbrev pub begins_days : List Item → Bool
 begins_days [] = false
-begins_days (i ∷ later) = is_number i.what && begins is_day later
+begins_days (i ∷ later) = is_count i.what && begins is_day later
 
 -- the place of the first item
 abbrev pub first_place : ℕ → List Item → ℕ
@@ -100,6 +104,7 @@ abbrev pub misfit_kind : What → What → FaultKind → FaultKind
 misfit_kind before (what.Token kind.Plus) k = plus_kind before
 misfit_kind before (what.Token t) k = k
 misfit_kind before (what.Easter days place) k = k
+misfit_kind before (what.Every place) k = k
 misfit_kind before (what.NoDates bad by_easter) k = k
 misfit_kind before w k = fault.Unexpected
 

@@ -32,6 +32,7 @@ says_days (what.Token k) = is_of_days k
 says_days (what.Holiday h) = true
 says_days (what.Dates days) = true
 says_days (what.Easter days place) = true
+says_days (what.Every place) = true
 says_days w = false
 
 abbrev pub says_first_days : What → Bool

@@ -248,6 +248,7 @@ fn after_what(behind: Behind, what: What) -> Behind
 {
     match what {
         What::Token(kind) => after_token(behind, kind),
+        What::Every { .. } => after_number(behind, 4),
         _ => behind,
     }
 }
@@ -314,6 +315,7 @@ fn last_of(what: What) -> Last
         What::Dates(_) => Last::Dates,
         What::NoDates { bad, .. } => Last::NoDates(bad),
         What::Easter { days, .. } => last_easter(days),
+        What::Every { .. } => Last::Unfinished,
         What::Comment => Last::NoComment,
         What::Unknown => Last::Modifier,
         What::Fallback => Last::Other,

@@ -2,7 +2,7 @@
 
 ghost use Rattle.std.specs.Prelude.{◌≡◌, ◌-◌, IfOk, drop, option_map, set};
 ghost use Rattle.gtd_hours_holiday_rules.specs.Checked.{byte_before, checked_from, checked_text, comment_form, dates_form};
-ghost use Rattle.gtd_hours_holiday_rules.specs.Checked.{first_or_space, form_of, put_over, written_over};
+ghost use Rattle.gtd_hours_holiday_rules.specs.Checked.{first_or_space, form_of, form_place, put_over, written_over};
 
 use crate::parts::Part;
 use crate::role::Role;
@@ -99,6 +99,7 @@ fn form_of(text: &[u8], item: Item, role: Role) -> Option<&'static [u8]>
         Role::Dated(_) => Some(dates_form(text, item)),
         Role::Known { .. } => Some(dates_form(text, item)),
         Role::Undated => Some(dates_form(text, item)),
+        Role::Every { .. } => Some(b"/9".as_slice()),
         Role::Doubtful => Some(b"PH".as_slice()),
         Role::Misfit => Some(b"]".as_slice()),
         Role::Fallback => Some(b";".as_slice()),
@@ -110,11 +111,22 @@ fn form_of(text: &[u8], item: Item, role: Role) -> Option<&'static [u8]>
     }
 }
 
+// Where the form begins.
+fn form_place(role: Role, item: Item) -> usize
+    ensures { result ≡ form_place role item }
+{
+    match role {
+        Role::Every { place } => place,
+        _ => item.from,
+    }
+}
+
 fn write_over(bytes: &mut [u8], text: &[u8], part: Part)
-    ensures { bytes.new ≡ written_over bytes.old part.item.from part.item.to (form_of text.now part.item part.role) }
+    ensures { bytes.new
+        ≡ written_over bytes.old (form_place part.role part.item) part.item.to (form_of text.now part.item part.role) }
 {
     if let Some(form) = form_of(text, part.item, part.role) {
-        put_over(bytes, part.item.from, part.item.to, form);
+        put_over(bytes, form_place(part.role, part.item), part.item.to, form);
     }
 }
 

@@ -8,6 +8,14 @@ use gtd_hours_days::{EasterDays, Listed};
 pub enum Role {
     /// It is in both.
     Kept,
+    /// A year in a list of years: it is in both.
+    Year,
+    /// Years without a last one, of which there are more than a domain holds: in the text of the rule they go on to 2799, and
+    /// their step is 9 in the checked text.
+    Every {
+        /// The number of bytes before the slash.
+        place: usize,
+    },
     /// A holiday that leads: it is one of the rule's, which is led, and in neither text.
     Leading(Listed),
     /// It is in neither text.

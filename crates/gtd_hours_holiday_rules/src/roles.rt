@@ -2,9 +2,9 @@
 
 ghost use Rattle.std.specs.Prelude.{◌≡◌};
 ghost use Rattle.gtd_hours_holiday_rules.specs.Roles.{bracket_role, colon_role, comma_role, comment_role, dash_role};
-ghost use Rattle.gtd_hours_holiday_rules.specs.Roles.{dates_comma, dates_go_on, days_comma, easter_role, first_role};
+ghost use Rattle.gtd_hours_holiday_rules.specs.Roles.{dates_comma, dates_go_on, days_comma, easter_role, every_role, first_role};
 ghost use Rattle.gtd_hours_holiday_rules.specs.Roles.{holiday_role, joined_role, kept_if, number_role, remark_role, role_in};
-ghost use Rattle.gtd_hours_holiday_rules.specs.Roles.{role_of, separates, sign_role, token_role, weekday_role};
+ghost use Rattle.gtd_hours_holiday_rules.specs.Roles.{role_of, separates, sign_role, takes_year, token_role, weekday_role};
 
 use crate::behind::{Behind, Last, Position, is_commented, is_faulty};
 use crate::role::Role;
@@ -181,14 +181,51 @@ fn dash_role(behind: Behind, last: Last, later: &[Item]) -> Role
     }
 }
 
+// Whether a year can begin here: the first one of a rule, or one behind a comma.
+fn takes_year(behind: Behind, last: Last) -> bool
+    ensures { result ≡ takes_year behind last }
+{
+    match behind {
+        Behind::Front => true,
+        Behind::Years => match last {
+            Last::Comma => true,
+            _ => false,
+        },
+        _ => false,
+    }
+}
+
 // A number: none stands directly behind a range that moves or Easter.
-fn number_role(last: Last) -> Role
-    ensures { result ≡ number_role last }
+fn number_role(behind: Behind, last: Last, digits: u8) -> Role
+    ensures { result ≡ number_role behind last digits }
 {
     match last {
         Last::Dates => Role::Misfit,
         Last::Easter => Role::Misfit,
-        _ => Role::Kept,
+        _ => {
+            if takes_year(behind, last) && digits == 4 {
+                Role::Year
+            } else {
+                Role::Kept
+            }
+        }
+    }
+}
+
+// Years without a last one, which are a number and more where no year can begin.
+fn every_role(behind: Behind, last: Last, place: usize) -> Role
+    ensures { result ≡ every_role behind last place }
+{
+    match last {
+        Last::Dates => Role::Misfit,
+        Last::Easter => Role::Misfit,
+        _ => {
+            if takes_year(behind, last) {
+                Role::Every { place }
+            } else {
+                Role::Kept
+            }
+        }
     }
 }
 
@@ -222,7 +259,7 @@ fn token_role(behind: Behind, last: Last, kind: TokenKind, later: &[Item]) -> Ro
         TokenKind::OpenBracket => bracket_role(behind),
         TokenKind::Plus => sign_role(behind, last),
         TokenKind::Dash => dash_role(behind, last, later),
-        TokenKind::Number { .. } => number_role(last),
+        TokenKind::Number { digits, .. } => number_role(behind, last, digits),
         TokenKind::Colon => colon_role(behind),
         _ => Role::Kept,
     }
@@ -259,6 +296,7 @@ fn role_in(position: Position, what: What, later: &[Item]) -> Role
         What::Dates(days) => Role::Dated(days),
         What::NoDates { .. } => Role::Undated,
         What::Easter { days, place } => easter_role(position.last, days, place),
+        What::Every { place } => every_role(position.behind, position.last, place),
         What::Comment => comment_role(position.behind, position.last),
         What::Fallback => Role::Fallback,
         What::Unknown => Role::UnknownWord,

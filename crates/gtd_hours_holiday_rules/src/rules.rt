@@ -1,8 +1,9 @@
 //! The rules of a text, each with its own text of plain hours, its holidays, and what else is said of it.
 
 ghost use Rattle.std.specs.Prelude.{◌≡◌, ◌++◌, ◌∷◌, [], List, IfOk, OnOk, map};
-ghost use Rattle.gtd_hours_holiday_rules.specs.Rules.{all_rules, begun, ended, link_behind, rules_of, said_by};
-ghost use Rattle.gtd_hours_holiday_rules.specs.Rules.{with_date, with_easter, with_holiday, with_item, with_text};
+ghost use Rattle.gtd_hours_holiday_rules.specs.Rules.{all_rules, begun, ended, every_text, link_behind, or_place, rules_of};
+ghost use Rattle.gtd_hours_holiday_rules.specs.Rules.{said_by, with_date, with_easter, with_every, with_holiday, with_item};
+ghost use Rattle.gtd_hours_holiday_rules.specs.Rules.{with_text, with_year};
 ghost use Rattle.gtd_hours_holiday_rules.specs.declared.parts.Part.{Part};
 
 use crate::parts::Part;
@@ -34,6 +35,11 @@ pub struct HolidayRule {
     pub easter: Vec<EasterDays>,
     /// Where the first `easter` of each of these stands in the whole text.
     pub easter_places: Vec<usize>,
+    /// Of each of its years, from left to right, whether it has no last one: its text has it up to 2799. A single year directly
+    /// before a month is one of them, too.
+    pub every: Vec<bool>,
+    /// The number of bytes before the slash of the first that has none.
+    pub every_place: Option<usize>,
     /// The number of bytes before the word or the comment that makes it unknown, if it is.
     pub unknown: Option<usize>,
     /// The number of bytes before a comment without a word that says that the rule is open, if it has one.
@@ -61,6 +67,8 @@ fn begun(alloc: Global, link: Link) -> HolidayRule
         dates: Vec::new(alloc),
         easter: Vec::new(alloc),
         easter_places: Vec::new(alloc),
+        every: Vec::new(alloc),
+        every_place: None,
         unknown: None,
         remark: None,
     }
@@ -71,6 +79,53 @@ fn push_text(rule: &mut HolidayRule, bytes: &[u8]) -> Result<(), AllocError>
 {
     rule.text.extend_from_slice(bytes)?;
     rule.text.push(b' ')?;
+    Ok(())
+}
+
+fn push_year(rule: &mut HolidayRule, bytes: &[u8]) -> Result<(), AllocError>
+    ensures { OnOk result (said_by rule.new ≡ with_year (said_by rule.old) (bytes.now ++ 32 ∷ [])) }
+{
+    push_text(rule, bytes)?;
+    rule.every.push(false)?;
+    Ok(())
+}
+
+fn or_place(first: Option<usize>, place: usize) -> Option<usize>
+    ensures { result ≡ or_place first place }
+{
+    match first {
+        None => Some(place),
+        Some(_) => first,
+    }
+}
+
+// Years without a last one, as far as the last one of the calendar.
+fn push_every_text(
+    rule: &mut HolidayRule,
+    text: &[u8],
+    item: Item,
+    place: usize,
+) -> Result<(), AllocError>
+    ensures { OnOk result (said_by rule.new ≡ with_text (said_by rule.old) (every_text text.now item place ++ 32 ∷ [])) }
+{
+    rule.text
+        .extend_from_slice(stretch(text, item.from, place))?;
+    rule.text.extend_from_slice(b"-2799")?;
+    push_text(rule, stretch(text, place, item.to))
+}
+
+fn push_every(
+    rule: &mut HolidayRule,
+    text: &[u8],
+    item: Item,
+    place: usize,
+) -> Result<(), AllocError>
+    ensures { OnOk result
+        (said_by rule.new ≡ with_every (said_by rule.old) (every_text text.now item place ++ 32 ∷ []) place) }
+{
+    push_every_text(rule, text, item, place)?;
+    rule.every.push(true)?;
+    rule.every_place = or_place(rule.every_place, place);
     Ok(())
 }
 
@@ -103,6 +158,8 @@ fn push_item(rule: &mut HolidayRule, text: &[u8], role: Role, item: Item) -> Res
 {
     match role {
         Role::Kept => push_text(rule, stretch(text, item.from, item.to)),
+        Role::Year => push_year(rule, stretch(text, item.from, item.to)),
+        Role::Every { place } => push_every(rule, text, item, place),
         Role::Leading(holiday) => {
             rule.is_led = true;
             push_holiday(rule, holiday, item.from)

@@ -4,14 +4,14 @@ ghost use Rattle.std.specs.Prelude.{◌≡◌};
 ghost use Rattle.gtd_hours_items.specs.Coming.{begins};
 ghost use Rattle.gtd_hours_holiday_rules.specs.Told.{begins_days, begins_easter, behind_first, easter_first, fault_at, fault_by};
 ghost use Rattle.gtd_hours_holiday_rules.specs.Told.{fault_in_range, first_place, has_offset, instead_of, is_dates, is_day};
-ghost use Rattle.gtd_hours_holiday_rules.specs.Told.{is_foreign};
+ghost use Rattle.gtd_hours_holiday_rules.specs.Told.{is_count, is_foreign};
 ghost use Rattle.gtd_hours_holiday_rules.specs.Told.{is_misfit, is_sign, kind_among, led_instead, misfit_fault, misfit_kind};
 ghost use Rattle.gtd_hours_holiday_rules.specs.Told.{plus_kind, sign_fault, told_at, told_fault, unfit_fault, unread_instead};
 
 use crate::behind::{Behind, Last, Position, is_commented};
 use crate::role::Role;
 use gtd_hours_grammar::{FaultKind, HoursFault};
-use gtd_hours_items::{Item, What, begins_weekday, is_number, is_weekday};
+use gtd_hours_items::{Item, What, begins_weekday, is_weekday};
 use gtd_hours_tokens::TokenKind;
 use thiserror::Error;
 
@@ -70,13 +70,22 @@ fn begins_day(items: &[Item]) -> bool
     }
 }
 
+fn is_count(what: What) -> bool
+    ensures { result ≡ is_count what }
+{
+    match what {
+        What::Token(TokenKind::Number { .. }) => true,
+        _ => false,
+    }
+}
+
 // A number and `day`.
 fn begins_days(items: &[Item]) -> bool
     ensures { result ≡ begins_days items.now }
 {
     match items.split_first() {
         None => false,
-        Some((item, later)) => is_number(item.what) && begins_day(later),
+        Some((item, later)) => is_count(item.what) && begins_day(later),
     }
 }
 
@@ -228,6 +237,7 @@ fn misfit_kind(before: What, what: What, kind: FaultKind) -> FaultKind
         What::Token(TokenKind::Plus) => plus_kind(before),
         What::Token(_) => kind,
         What::Easter { .. } => kind,
+        What::Every { .. } => kind,
         What::NoDates { .. } => kind,
         _ => FaultKind::Unexpected,
     }

@@ -58,6 +58,7 @@ fn says_days(what: What) -> bool
         What::Holiday(_) => true,
         What::Dates(_) => true,
         What::Easter { .. } => true,
+        What::Every { .. } => true,
         _ => false,
     }
 }

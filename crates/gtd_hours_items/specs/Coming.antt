@@ -36,13 +36,16 @@ abbrev pub is_time : What → Bool
 is_time (what.Token (kind.Time h m)) = true
 is_time w = false
 
+-- a number, or what begins with one
 abbrev pub is_number : What → Bool
 is_number (what.Token (kind.Number v d)) = true
+is_number (what.Every place) = true
 is_number w = false
 
--- a number of four digits
+-- a number of four digits, or what begins with one
 abbrev pub is_year : What → Bool
 is_year (what.Token (kind.Number v d)) = d == 4
+is_year (what.Every place) = true
 is_year w = false
 
 -- The first of the items is so.

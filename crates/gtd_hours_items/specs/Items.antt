@@ -1,5 +1,5 @@
 -- The items of a text: its tokens. Some are holidays or Easter, with the offsets that belong to them, ranges of days that move or
--- Easter of a year, comments, `||` or `unknown`.
+-- Easter of a year, years without a last one, comments, `||` or `unknown`.
 use Rattle.std.specs.Prelude.{◌≡◌, ℕ, zero, suc, ◌-◌, ◌&&◌, ◌||◌, ◌==◌, Bool, false, List, [], ◌∷◌, Option, Some, None}
 use Rattle.std.specs.Prelude.{codes, if◌then◌else◌, is_some}
 use Rattle.gtd_hours_days.specs.declared.listed.EasterDays.TheVariants as easter
@@ -8,6 +8,7 @@ use Rattle.gtd_hours_tokens.specs.declared.token.Token.{Token}
 use Rattle.gtd_hours_moving.specs.Words.{is_easter, is_unread, is_word, stretch}
 use Rattle.gtd_hours_moving.specs.declared.front.MovingFront.{MovingFront}
 use Rattle.gtd_hours_moving.specs.declared.front.MovingFront.TheVariants as moving
+use Rattle.gtd_hours_items.specs.Every.{Slashed, every_front}
 use Rattle.gtd_hours_items.specs.Fronts.{IsFrontAt, before_after}
 use Rattle.gtd_hours_items.specs.Offsets.{Placed, later, offset_front}
 use Rattle.gtd_hours_items.specs.declared.fronts.Before.{Before}
@@ -50,16 +51,24 @@ abbrev pub easter_with : Token → Option Placed → Item
 easter_with token None = record { what = what.Easter (easter.Day (later 0)) token.from; from = token.from; to = token.to }
 easter_with token (Some (offset, to)) = record { what = what.Easter (easter.Day offset) token.from; from = token.from; to = to }
 
+-- Years without a last one, of which there are more than a domain holds, or what the token is by itself.
+abbrev pub token_with : List ℕ → Token → Option Slashed → Item
+token_with text token None = record { what = what_of text token; from = token.from; to = token.to }
+token_with text token (Some (place, to)) = record { what = what.Every place; from = token.from; to = to }
+
 -- The item that begins with a token, where these come behind it.
 abbrev pub item_at : List ℕ → Token → List Token → Item
 item_at text token ts =
     if is_public text token then public_with token (offset_front ts)
     else if is_easter text token then easter_with token (offset_front ts)
-    else record { what = what_of text token; from = token.from; to = token.to }
+    else token_with text token (every_front token ts)
 
--- How many of these belong to it: a sign, a number and `day`, or none.
+-- How many of these belong to it: a sign, a number and `day`; a slash and a step; or none.
 abbrev pub more_at : List ℕ → Token → List Token → ℕ
-more_at text token ts = if (is_public text token || is_easter text token) && is_some (offset_front ts) then 3 else 0
+more_at text token ts =
+    if is_public text token || is_easter text token then if is_some (offset_front ts) then 3 else 0
+    else if is_some (every_front token ts) then 2
+    else 0
 
 -- The item of a range of days that moves, or of its first token if it has a fault.
 abbrev pub range_item : List ℕ → Token → MovingFront → Item

@@ -1,5 +1,6 @@
 pub mod Offsets
 pub mod Fronts
+pub mod Every
 pub mod Items
 pub mod Comments
 pub mod Coming

@@ -74,22 +74,24 @@ fn is_time(what: What) -> bool
     }
 }
 
-/// Whether it is a number.
+/// Whether it is a number, or begins with one.
 pub fn is_number(what: What) -> bool
     ensures answer { result ≡ is_number what }
 {
     match what {
         What::Token(TokenKind::Number { .. }) => true,
+        What::Every { .. } => true,
         _ => false,
     }
 }
 
-// A number of four digits.
+// A number of four digits, or what begins with one.
 fn is_year(what: What) -> bool
     ensures { result ≡ is_year what }
 {
     match what {
         What::Token(TokenKind::Number { digits, .. }) => digits == 4,
+        What::Every { .. } => true,
         _ => false,
     }
 }
@@ -141,7 +143,7 @@ pub fn begins_date(items: &[Item]) -> bool
     begins_month(items) || begins_year(items)
 }
 
-/// Whether it is a number of four digits.
+/// Whether it is a number of four digits, or begins with one.
 pub fn begins_year(items: &[Item]) -> bool
     ensures answer { result ≡ begins is_year items.now }
 {

@@ -1,11 +1,13 @@
-//! The items of a text: its tokens, of which some are holidays, ranges of days that move, comments, or of rules that fall back
-//! or are unknown.
+//! The items of a text: its tokens, of which some are holidays, ranges of days that move, years without a last one, comments, or
+//! of rules that fall back or are unknown.
 
 ghost use Rattle.std.specs.Prelude.{◌≡◌, ◌++◌, IfOk, List};
 ghost use Rattle.gtd_hours_moving.specs.Words.{is_easter};
 ghost use Rattle.gtd_hours_items.specs.Items.{AreItems, begins_quoted, easter_with, is_comment, is_public, is_school, item_at};
-ghost use Rattle.gtd_hours_items.specs.Items.{item_by, more_at, more_by, more_of_range, public_with, range_item, what_of};
+ghost use Rattle.gtd_hours_items.specs.Items.{item_by, more_at, more_by, more_of_range, public_with, range_item, token_with};
+ghost use Rattle.gtd_hours_items.specs.Items.{what_of};
 
+use crate::every::every_front;
 use crate::fronts::{Before, before_after, front_at};
 use crate::offsets::{later, offset_front};
 use gtd_hours::Selector;
@@ -36,6 +38,11 @@ pub enum What {
         /// The days.
         days: EasterDays,
         /// The number of bytes before the first `easter`.
+        place: usize,
+    },
+    /// Years without a last one, `2025/2`, of which there are more than a domain holds.
+    Every {
+        /// The number of bytes before the slash.
         place: usize,
     },
     /// A comment.
@@ -150,6 +157,24 @@ fn easter_with(token: Token, offset: Option<(Offset, usize)>) -> Item
     }
 }
 
+// Years without a last one that end there, if they do, or what the token is by itself.
+fn token_with(text: &[u8], token: Token, every: Option<(usize, usize)>) -> Item
+    ensures { result ≡ token_with text.now token every }
+{
+    match every {
+        None => Item {
+            what: what_of(text, token),
+            from: token.from,
+            to: token.to,
+        },
+        Some((place, to)) => Item {
+            what: What::Every { place },
+            from: token.from,
+            to,
+        },
+    }
+}
+
 // The item that begins with a token, where these come behind it.
 fn item_at(text: &[u8], token: Token, later: &[Token]) -> Item
     ensures { result ≡ item_at text.now token later.now }
@@ -160,19 +185,17 @@ fn item_at(text: &[u8], token: Token, later: &[Token]) -> Item
     if is_easter(text, token) {
         return easter_with(token, offset_front(later));
     }
-    Item {
-        what: what_of(text, token),
-        from: token.from,
-        to: token.to,
-    }
+    token_with(text, token, every_front(token, later))
 }
 
 // How many of the tokens behind the first one of an item belong to it.
 fn more_at(text: &[u8], token: Token, later: &[Token]) -> u8
     ensures { result ≡ more_at text.now token later.now }
 {
-    if (is_public(text, token) || is_easter(text, token)) && offset_front(later).is_some() {
-        3
+    if is_public(text, token) || is_easter(text, token) {
+        if offset_front(later).is_some() { 3 } else { 0 }
+    } else if every_front(token, later).is_some() {
+        2
     } else {
         0
     }

@@ -6,6 +6,7 @@
 
 mod coming;
 mod comments;
+mod every;
 mod fronts;
 mod items;
 mod offsets;

@@ -8,7 +8,7 @@ use Rattle.gtd_hours_days.specs.declared.listed.Listed.{Listed}
 use Rattle.gtd_hours_holidays.specs.declared.holidays.Holidays.{Holidays}
 use Rattle.gtd_hours_holidays.specs.declared.known_years.KnownYears.{KnownYears}
 use Rattle.gtd_hours_holiday_rules.specs.declared.rules.HolidayRule.{HolidayRule}
-use Rattle.gtd_hours_known.specs.Given.{AreAllGiven, has_table, no_easter_years, no_years, none_given, not_given}
+use Rattle.gtd_hours_known.specs.Given.{AreAllGiven, has_table, no_easter_years, no_last_year, no_years, none_given, not_given}
 use Rattle.gtd_hours_known.specs.Given.{or_later, rule_lacks}
 use Rattle.gtd_hours_known.specs.Easter.{AreEasterDays, listed_of}
 use Rattle.gtd_hours_known.specs.HolidayDays.{AreDaysIn, AreDaysOf}
@@ -65,13 +65,24 @@ no_years_given known holidays places some none e =
     let bad : false ≡ true = subst (λ (o : Option KnownYears). IsSome o) e (is_given known holidays places some none).1 in
     absurd (false≢true bad)
 
--- what is given for a rule is so for its days of Easter, and for its holidays
+-- what is given for a rule is so for its years without a last one
+pub last_year_given : (known : Known) (rule : HolidayRule) → rule_lacks known rule ≡ None
+    → no_last_year known.years rule.every_place ≡ None
+last_year_given known rule e =
+    (none_of (no_last_year known.years rule.every_place)
+    (or_later (no_easter_years known.years rule.easter.items rule.easter_places.items)
+    (none_given known rule.holidays.items rule.places.items)) e).0
+
+-- and so for its days of Easter, and for its holidays
 pub rule_given : (known : Known) (rule : HolidayRule) → rule_lacks known rule ≡ None
     → (no_easter_years known.years rule.easter.items rule.easter_places.items ≡ None)
     × (none_given known rule.holidays.items rule.places.items ≡ None)
 rule_given known rule e =
+    let more = none_of (no_last_year known.years rule.every_place)
+    (or_later (no_easter_years known.years rule.easter.items rule.easter_places.items)
+    (none_given known rule.holidays.items rule.places.items)) e in
     none_of (no_easter_years known.years rule.easter.items rule.easter_places.items)
-    (none_given known rule.holidays.items rule.places.items) e
+    (none_given known rule.holidays.items rule.places.items) more.1
 
 pub years_for_easter : (years : Option KnownYears) (easter : List EasterDays) (places : List ℕ) → (length easter ≡ 0 → ⊥)
     → no_easter_years years easter places ≡ None → years ≡ None → ⊥

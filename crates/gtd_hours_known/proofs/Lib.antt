@@ -11,3 +11,4 @@ pub mod SaidDays
 pub mod SaidRules
 pub mod OneDays
 pub mod EasterFacts
+pub mod UntilLemmas

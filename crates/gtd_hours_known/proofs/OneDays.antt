@@ -26,6 +26,7 @@ use Rattle.gtd_hours_known.specs.HolidayDays.{AreDaysIn, AreRangesOf, AreWritten
 use Rattle.gtd_hours_known.specs.Rules.{AreGivenDays}
 use Rattle.gtd_hours_known.specs.declared.known.Known.{Known}
 use Rattle.gtd_hours_known.proofs.DayFacts.{range_of, yearly_of}
+use Rattle.gtd_hours_known.proofs.UntilLemmas.{hours_until}
 use Rattle.gtd_hours_ranges.specs.facts.SameDays.{same_range}
 
 -- ---- one selector
@@ -124,5 +125,6 @@ pub one_own : (known : Known) (from : HolidayRule) (one other : Hours) → IsOwn
     → IsOwnHours known from other → SameRules one.rules.items other.rules.items
 one_own known from one other p q =
     let same = one_easter known from.easter.items p.easter q.easter p.are q.are in
-    dated_rules from.text.items (month_days from q.easter) one other
-    (subst (λ (l : List Selector). IsDatedHours from.text.items (month_days from l) one) same p.stands) q.stands
+    let dated = dated_rules from.text.items (month_days from q.easter) p.dated q.dated
+    (subst (λ (l : List Selector). IsDatedHours from.text.items (month_days from l) p.dated) same p.stands) q.stands in
+    hours_until known.years from.every_place from.every.items p.dated q.dated one other dated p.until q.until

@@ -1,5 +1,5 @@
 -- Hours that are read without holidays, comments, unknown and fallback rules are those that are read plainly.
-use Rattle.std.proofs.Common.{◌≡◌, ◌∙◌, refl, sym, ap, subst, ℕ, List, [], ◌∷◌, length, Option, Some, None}
+use Rattle.std.proofs.Common.{◌≡◌, ◌∙◌, refl, sym, ap, subst, Bool, ℕ, List, [], ◌∷◌, length, Option, Some, None}
 use Rattle.gtd_hours.specs.declared.hours.Hours.{Hours}
 use Rattle.gtd_hours.specs.declared.hours.Rule.{Rule}
 use Rattle.gtd_hours.specs.declared.hours.Selector.{Selector}
@@ -19,13 +19,14 @@ use Rattle.gtd_hours_holiday_rules.specs.declared.rules.HolidayRule.{HolidayRule
 use Rattle.gtd_hours_holiday_rules.specs.declared.text.HolidayText.{HolidayText}
 use Rattle.gtd_hours_holidays.specs.declared.known_years.KnownYears.{KnownYears}
 use Rattle.gtd_hours_known.specs.Easter.{AreEasterDays, IsOwnHours}
-use Rattle.gtd_hours_known.specs.Given.{no_easter_years, none_given, or_later, rule_lacks}
+use Rattle.gtd_hours_known.specs.Given.{no_easter_years, no_last_year, none_given, or_later, rule_lacks}
 use Rattle.gtd_hours_known.specs.Manners.{IsKnownLooseReading, IsKnownReadingIn, IsPlaced, mended, placed_holiday, placed_places}
 use Rattle.gtd_hours_known.specs.Manners.{strict}
 use Rattle.gtd_hours_known.specs.Marks.{HasMarks}
 use Rattle.gtd_hours_known.specs.Needs.{first_need, unknown_fault}
 use Rattle.gtd_hours_known.specs.Reading.{IsKnown, KnownStandsFor, listed, plain}
-use Rattle.gtd_hours_known.specs.Rules.{AreGivenDays, AreHolidayRules, IsHolidayRule, first_holiday, first_or}
+use Rattle.gtd_hours_known.specs.Rules.{AreGivenDays, AreHolidayRules, IsHolidayRule, first_holiday, first_or, place_or}
+use Rattle.gtd_hours_known.specs.Until.{AreHoursUntil}
 use Rattle.gtd_hours_known.specs.declared.known.Known.{Known}
 use Rattle.gtd_hours_known.specs.declared.known.KnownHours.{KnownHours}
 
@@ -75,7 +76,11 @@ pub only_plain : (m : Manner) (known : Known) (text : List ℕ) (read : KnownHou
 only_plain manner.Strict known text read is stands = (only_stands known text read is stands.0, stands.1)
 only_plain (manner.Loose names) known text read is stands = only_loose names known text read is stands
 
--- ---- without holidays and Easter nothing needs to be known
+-- ---- without holidays, Easter and years without a last one nothing needs to be known
+
+no_place : (place later : Option ℕ) → place_or place later ≡ None → (place ≡ None) × (later ≡ None)
+no_place None later e = (refl, e)
+no_place (Some place) later e = absurd cc
 
 no_first : {A : Type 0} (xs : List A) (places : List ℕ) (later : Option ℕ) → first_or xs places later ≡ None
     → (xs ≡ []) × (later ≡ None)
@@ -92,29 +97,44 @@ same_easter : (known other : Known) (easter : List EasterDays) (days : List Sele
 same_easter known other [] days none are = are
 same_easter known other (h ∷ easter) days none are = absurd cc
 
-same_own : (known other : Known) (from : HolidayRule) (hours : Hours) → from.easter.items ≡ []
+same_until : (years other : Option KnownYears) (place : Option ℕ) (marks : List Bool) (own hours : Hours) → place ≡ None
+    → AreHoursUntil years place marks own hours → AreHoursUntil other place marks own hours
+same_until years other None marks own hours none are = are
+same_until years other (Some place) marks own hours none are = absurd cc
+
+-- a rule needs nothing
+record NeedsNothing (rule : HolidayRule) : Type 0 where
+  every : rule.every_place ≡ None
+  easter : rule.easter.items ≡ []
+  holidays : rule.holidays.items ≡ []
+
+same_own : (known other : Known) (from : HolidayRule) (hours : Hours) → NeedsNothing from
     → IsOwnHours known from hours → IsOwnHours other from hours
 same_own known other from hours none is = record {
   easter = is.easter;
-  are = same_easter known other from.easter.items is.easter none is.are;
+  are = same_easter known other from.easter.items is.easter none.easter is.are;
+  dated = is.dated;
   stands = is.stands;
+  until = same_until known.years other.years from.every_place from.every.items is.dated hours none.every is.until;
 }
 
--- a rule has neither Easter nor holidays, and those behind it have none
+-- and those behind it neither
 no_holiday : (rule : HolidayRule) (rules : List HolidayRule) → first_holiday (rule ∷ rules) ≡ None
-    → (rule.easter.items ≡ []) × (rule.holidays.items ≡ []) × (first_holiday rules ≡ None)
+    → NeedsNothing rule × (first_holiday rules ≡ None)
 no_holiday rule rules none =
+    let first = no_place rule.every_place _ none in
     let own = no_first rule.easter.items rule.easter_places.items
-    (first_or rule.holidays.items rule.places.items (first_holiday rules)) none in
-    let more = no_first rule.holidays.items rule.places.items (first_holiday rules) own.1 in (own.0, more.0, more.1)
+    (first_or rule.holidays.items rule.places.items (first_holiday rules)) first.1 in
+    let more = no_first rule.holidays.items rule.places.items (first_holiday rules) own.1 in
+    (record { every = first.0; easter = own.0; holidays = more.0 }, more.1)
 
-same_rule : (known other : Known) (from : HolidayRule) (made : List Rule) → from.easter.items ≡ [] → from.holidays.items ≡ []
+same_rule : (known other : Known) (from : HolidayRule) (made : List Rule) → NeedsNothing from
     → IsHolidayRule known from made → IsHolidayRule other from made
-same_rule known other from made easter none is = record {
+same_rule known other from made none is = record {
   plain = is.plain;
   days = is.days;
-  own = same_own known other from is.plain easter is.own;
-  listed = same_days known other from.holidays.items is.days none is.listed;
+  own = same_own known other from is.plain none is.own;
+  listed = same_days known other from.holidays.items is.days none.holidays is.listed;
   are = is.are;
 }
 
@@ -123,7 +143,7 @@ same_rules : (known other : Known) (rules : List HolidayRule) (made : List Rule)
 same_rules known other [] made none are = are
 same_rules known other (rule ∷ rules) made none are =
     let all = no_holiday rule rules none in
-    (are.0, are.1, same_rule known other rule are.0 all.0 all.1 are.2, same_rules known other rules are.1 all.2 are.3, are.4)
+    (are.0, are.1, same_rule known other rule are.0 all.0 are.2, same_rules known other rules are.1 all.1 are.3, are.4)
 
 same_given : (known other : Known) (holidays : List Listed) (places : List ℕ) → holidays ≡ []
     → none_given known holidays places ≡ none_given other holidays places
@@ -135,20 +155,25 @@ no_easter : (years other : Option KnownYears) (easter : List EasterDays) (places
 no_easter years other [] places none = refl
 no_easter years other (h ∷ easter) places none = absurd cc
 
-same_lacks : (known other : Known) (rule : HolidayRule) → rule.easter.items ≡ [] → rule.holidays.items ≡ []
-    → rule_lacks known rule ≡ rule_lacks other rule
-same_lacks known other rule easter none =
-    let years = no_easter known.years other.years rule.easter.items rule.easter_places.items easter in
-    let given = same_given known other rule.holidays.items rule.places.items none in
-    λ i. or_later (years i) (given i)
+no_every : (years other : Option KnownYears) (place : Option ℕ) → place ≡ None
+    → no_last_year years place ≡ no_last_year other place
+no_every years other None none = refl
+no_every years other (Some place) none = absurd cc
+
+same_lacks : (known other : Known) (rule : HolidayRule) → NeedsNothing rule → rule_lacks known rule ≡ rule_lacks other rule
+same_lacks known other rule none =
+    let last = no_every known.years other.years rule.every_place none.every in
+    let years = no_easter known.years other.years rule.easter.items rule.easter_places.items none.easter in
+    let given = same_given known other rule.holidays.items rule.places.items none.holidays in
+    λ i. or_later (last i) (or_later (years i) (given i))
 
 same_need : (known other : Known) (rules : List HolidayRule) → first_holiday rules ≡ None
     → first_need known rules ≡ first_need other rules
 same_need known other [] none = refl
 same_need known other (rule ∷ rules) none =
     let all = no_holiday rule rules none in
-    let here = same_lacks known other rule all.0 all.1 in
-    let later = same_need known other rules all.2 in
+    let here = same_lacks known other rule all.0 in
+    let later = same_need known other rules all.1 in
     λ i. or_later (or_later (here i) (unknown_fault rule rules)) (later i)
 
 same_known : (known other : Known) (found : HolidayText) (hours : Hours) → first_holiday found.rules.items ≡ None

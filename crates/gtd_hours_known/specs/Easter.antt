@@ -1,5 +1,5 @@
--- The month days of a rule that are not in its own text: ranges that move, and days of Easter, which are known in some years
--- alone.
+-- The hours of a rule's own text with the month days that are not in it: ranges that move, and days of Easter, which are known in
+-- some years alone; and with years that end with these.
 use Rattle.std.specs.Prelude.{◌≡◌, List, [], ◌∷◌, ◌++◌, Option, Some, None}
 use Rattle.gtd_hours.specs.declared.hours.Hours.{Hours}
 use Rattle.gtd_hours.specs.declared.hours.Selector.{Selector}
@@ -10,6 +10,7 @@ use Rattle.gtd_hours_days.specs.declared.listed.Listed.TheVariants.{Easter}
 use Rattle.gtd_hours_holidays.specs.declared.known_years.KnownYears.{KnownYears}
 use Rattle.gtd_hours_holiday_rules.specs.declared.rules.HolidayRule.{HolidayRule}
 use Rattle.gtd_hours_known.specs.HolidayDays.{AreDaysIn}
+use Rattle.gtd_hours_known.specs.Until.{AreHoursUntil}
 use Rattle.gtd_hours_known.specs.declared.known.Known.{Known}
 
 -- days of Easter as selectors that are listed
@@ -33,8 +34,11 @@ more_days (x ∷ dates) easter days = Some ((x ∷ dates) ++ days)
 abbrev pub month_days : HolidayRule → List Selector → Option (List Selector)
 month_days from days = more_days from.dates.items from.easter.items days
 
--- The own text of a rule, with its other month days, stands for these hours.
+-- The own text of a rule, with its other month days, stands for these hours, where years without a last one end with the known
+-- years.
 pub record IsOwnHours (known : Known) (from : HolidayRule) (hours : Hours) : Type 0 where
   pub easter : List Selector
   pub are : AreEasterDays known from.easter.items easter
-  pub stands : IsDatedHours from.text.items (month_days from easter) hours
+  pub dated : Hours
+  pub stands : IsDatedHours from.text.items (month_days from easter) dated
+  pub until : AreHoursUntil known.years from.every_place from.every.items dated hours

@@ -1,4 +1,4 @@
--- What the holidays and the days of Easter of a text need and is not given: a table, and years.
+-- What the holidays, the days of Easter and the years without a last one of a text need and is not given: a table, and years.
 use Rattle.std.specs.Prelude.{◌≡◌, ℕ, ◌&&◌, ◌||◌, Bool, true, false, if◌then◌else◌, List, [], ◌∷◌, drop, Option, Some, None}
 use Rattle.gtd_hours_days.specs.Listed.{kind_of}
 use Rattle.gtd_hours_days.specs.declared.listed.EasterDays.{EasterDays}
@@ -60,11 +60,17 @@ abbrev pub no_easter_years : Option KnownYears → List EasterDays → List ℕ 
 no_easter_years years [] places = None
 no_easter_years years (h ∷ easter) places = no_years years (first_place places)
 
--- What is not given for a rule: the years of its first Easter, or what its holidays need.
+-- no years are given with which years without a last one, whose slash stands here, end
+abbrev pub no_last_year : Option KnownYears → Option ℕ → Option KnownFault
+no_last_year years None = None
+no_last_year years (Some place) = no_years years place
+
+-- What is not given for a rule: the years of its first years without a last one, of its first Easter, or what its holidays need.
 abbrev pub rule_lacks : Known → HolidayRule → Option KnownFault
 rule_lacks known rule =
-    or_later (no_easter_years known.years rule.easter.items rule.easter_places.items)
-    (none_given known rule.holidays.items rule.places.items)
+    or_later (no_last_year known.years rule.every_place)
+    (or_later (no_easter_years known.years rule.easter.items rule.easter_places.items)
+    (none_given known rule.holidays.items rule.places.items))
 
 -- Nothing is missing for each of some rules.
 abbrev pub AreAllGiven : Known → List HolidayRule → Type 0

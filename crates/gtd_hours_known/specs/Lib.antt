@@ -1,5 +1,6 @@
 pub mod HolidayDays
 pub mod Joining
+pub mod Until
 pub mod Easter
 pub mod Rules
 pub mod Given
@@ -9,6 +10,7 @@ pub mod Faults
 pub mod Reading
 pub mod Said
 pub mod Manners
+pub mod facts
 pub use Rattle.gtd_calendar.specs.Calendar
 pub use Rattle.gtd_calendar.specs.declared.day.DayFields
 pub use Rattle.gtd_hours.specs.Opening

@@ -22,7 +22,7 @@ use Rattle.gtd_hours_known.specs.declared.known.Known.{Known}
 use Rattle.gtd_hours_known.specs.declared.rules.RulesStop.{RulesStop}
 use Rattle.gtd_hours_known.specs.declared.rules.RulesStop.TheVariants as stop
 
--- ---- the first holiday
+-- ---- the first of what needs years
 
 -- the first of these places
 abbrev pub first_place : List ℕ → ℕ
@@ -34,11 +34,17 @@ abbrev pub first_or : {A : Type 0} → List A → List ℕ → Option ℕ → Op
 first_or [] places later = later
 first_or (x ∷ xs) places later = Some (first_place places)
 
--- where the first Easter or else the first holiday of the first rule that has one stands
+-- a place that is given, or else another one
+abbrev pub place_or : Option ℕ → Option ℕ → Option ℕ
+place_or None later = later
+place_or (Some place) later = Some place
+
+-- Where the first rule that needs years has its first years without a last one, or else its first Easter, or its first holiday.
 abbrev pub first_holiday : List HolidayRule → Option ℕ
 first_holiday [] = None
 first_holiday (rule ∷ rules) =
-    first_or rule.easter.items rule.easter_places.items (first_or rule.holidays.items rule.places.items (first_holiday rules))
+    place_or rule.every_place
+    (first_or rule.easter.items rule.easter_places.items (first_or rule.holidays.items rule.places.items (first_holiday rules)))
 
 -- ---- the own texts of rules
 

@@ -9,12 +9,16 @@ use crate::given::first_place;
 use gtd_hours_grammar::{HoursFault, check_hours};
 use gtd_hours_holiday_rules::{HolidayRule, HolidayText, told_fault};
 
-/// Where the first Easter or else the first holiday of the first rule that has one stands.
+/// Where the first rule that needs years has the slash of its first years without a last one, or else its first Easter, or its
+/// first holiday.
 pub(crate) fn first_holiday(rules: &[HolidayRule]) -> Option<usize>
     ensures { result ≡ first_holiday rules.now }
 {
     let mut rest = rules;
     while let Some((rule, more)) = rest.split_first() {
+        if let Some(place) = rule.every_place {
+            return Some(place);
+        }
         if !rule.easter.is_empty() {
             return Some(first_place(rule.easter_places.as_slice()));
         }

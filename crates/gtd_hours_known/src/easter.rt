@@ -1,4 +1,4 @@
-//! The hours of a rule's own text with its other month days: ranges that move, and Easter.
+//! The hours of a rule's own text with its other month days, ranges that move and Easter, and with years that end.
 
 ghost use Rattle.std.specs.Prelude.{◌≡◌, ◌++◌, [], IfErr, IfOk, None, Some};
 ghost use Rattle.gtd_hours_dated.specs.Dated.{IsDatedHours};
@@ -11,6 +11,7 @@ ghost use Rattle.gtd_hours_known.specs.declared.rules.RulesStop.TheVariants as s
 use crate::known::Known;
 use crate::rules::RulesStop;
 use crate::selectors::listed_selectors;
+use crate::until::hours_until;
 use gtd_hours::{Hours, Selector};
 use gtd_hours_dated::read_dated_hours;
 use gtd_hours_days::{EasterDays, Listed, ListedFault};
@@ -122,7 +123,7 @@ fn hours_with(alloc: Global, from: &HolidayRule, easter: &[Selector]) -> Result<
     dated_hours(alloc, from.text.as_slice(), dates.as_slice())
 }
 
-/// The hours that the own text of a rule stands for, with its other month days.
+/// The hours that the own text of a rule stands for, with its other month days, and where its years end with the known ones.
 pub(crate) fn own_hours(
     alloc: Global,
     from: &HolidayRule,
@@ -134,5 +135,7 @@ pub(crate) fn own_hours(
     ensures stop { IfErr result (λ why. why ≡ stop.NoMemory) }
 {
     let easter = easter_days(alloc, from, known)?;
-    hours_with(alloc, from, easter.as_slice())
+    let dated = hours_with(alloc, from, easter.as_slice())?;
+    let hours = hours_until(alloc, from, known, dated)?;
+    Ok(hours)
 }

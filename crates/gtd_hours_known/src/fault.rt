@@ -25,10 +25,11 @@ pub enum KnownFault {
         /// The number of bytes before the first holiday for which something is not given.
         place: usize,
     },
-    /// It is Easter, or there is a table for the holiday, but the years are not given in which holidays are known.
+    /// It is the slash of years without a last one, or Easter, or there is a table for the holiday, but the years are not given
+    /// in which these are known.
     #[error("Years at {place}")]
     Years {
-        /// The number of bytes before the first holiday for which something is not given.
+        /// The number of bytes before the first of these for which something is not given.
         place: usize,
     },
     /// The table does not say all holidays of this kind in the years.

@@ -1,9 +1,9 @@
-//! What the holidays and the days of Easter of a text need and is not given: a table, and years.
+//! What the holidays, the days of Easter and the years without a last one of a text need and is not given: a table, and years.
 
 ghost use Rattle.std.specs.Prelude.{◌≡◌, drop};
 ghost use Rattle.gtd_hours_days.specs.Listed.{kind_of};
 ghost use Rattle.gtd_hours_known.specs.Given.{covers, covers_some, has_table, is_kind, no_years, none_given};
-ghost use Rattle.gtd_hours_known.specs.Given.{no_easter_years, not_given, rule_lacks};
+ghost use Rattle.gtd_hours_known.specs.Given.{no_easter_years, no_last_year, not_given, rule_lacks};
 ghost use Rattle.gtd_hours_known.specs.Rules.{first_place};
 
 use crate::fault::KnownFault;
@@ -135,10 +135,23 @@ fn no_easter_years(
     no_years(years, first_place(places))
 }
 
-/// What is not given for a rule: the years of its first Easter, or what its holidays need.
+// A fault at the slash of years without a last one, if no years are given.
+fn no_last_year(years: Option<KnownYears>, place: Option<usize>) -> Option<KnownFault>
+    ensures { result ≡ no_last_year years place }
+{
+    match place {
+        None => None,
+        Some(place) => no_years(years, place),
+    }
+}
+
+/// What is not given for a rule: the years of its first years without a last one, of its first Easter, or what its holidays need.
 pub(crate) fn rule_lacks(known: &Known, rule: &HolidayRule) -> Option<KnownFault>
     ensures { result ≡ rule_lacks known.now rule.now }
 {
+    if let Some(bad) = no_last_year(known.years, rule.every_place) {
+        return Some(bad);
+    }
     let easter = rule.easter.as_slice();
     if let Some(bad) = no_easter_years(known.years, easter, rule.easter_places.as_slice()) {
         return Some(bad);

@@ -19,6 +19,7 @@ mod needs;
 mod reader;
 mod rules;
 mod selectors;
+mod until;
 
 pub use fault::{KnownFault, KnownReadFault};
 pub use joining::with_days;

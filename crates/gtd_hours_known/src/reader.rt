@@ -21,15 +21,16 @@ use std::alloc::Global;
 
 /// The hours that a text stands for as it is written, with the holidays that the table has in the years.
 ///
-/// Errors, the first in this order: a byte with which no token begins, or a comment that does not end or has a control byte,
-/// whichever stands first; the first fault of the text, or a place that people read in two ways; the first need of its rules,
-/// from left to right; `Uncovered` at the first holiday of whose kind the table does not say all in the years. A need is
-/// `Years` at the first Easter of a rule, where no years are given; `Holidays` or `Years` at a holiday for which there is no
-/// table that says all of its kind for some day, or else no years are given; `Unknown` where an unknown rule is no fallback
-/// rule, or a fallback rule that is not unknown comes after it. `NoMemory` is answered only if memory was refused. A text
-/// without holidays asks for no table, and one without Easter either for no years. No text is known whose rules are at fault by
-/// themselves, where the text with words in place of its holidays and comments is not; such a fault would come before the
-/// needs, at its place in the rule alone.
+/// Errors, the first in this order: a byte with which no token begins, or a comment that does not end or has a control
+/// byte, whichever stands first; the first fault of the text, or a place that people read in two ways; the first need of
+/// its rules, from left to right; `Uncovered` at the first holiday of whose kind the table does not say all in the years. A
+/// need is `Years` at the slash of the first years without a last one of a rule, or at its first Easter, where no years are
+/// given; `Holidays` or `Years` at a holiday for which there is no table that says all of its kind for some day, or else no
+/// years are given; `Unknown` where an unknown rule is no fallback rule, or a fallback rule that is not unknown comes after
+/// it. `NoMemory` is answered only if memory was refused. A text without holidays asks for no table, and one without Easter
+/// and without such years either for no years. No text is known whose rules are at fault by themselves, where the text with
+/// words in place of its holidays and comments is not; such a fault would come before the needs, at its place in the rule
+/// alone.
 pub fn read_known_hours(
     alloc: Global,
     text: &[u8],

@@ -1,6 +1,7 @@
 pub mod Joining
 pub mod Selecting
 pub mod Days
+pub mod Years
 pub mod Times
 pub mod Comments
 pub mod Rules

@@ -14,6 +14,7 @@ use Rattle.gtd_hours_mended.specs.Days.{with_easter, with_holidays}
 use Rattle.gtd_hours_mended.specs.Joining.{is_nothing, spaced}
 use Rattle.gtd_hours_mended.specs.Selecting.{selectors_of}
 use Rattle.gtd_hours_mended.specs.Times.{with_forms}
+use Rattle.gtd_hours_mended.specs.Years.{years_text}
 use Rattle.gtd_hours_mended.specs.declared.classes.Class.TheVariants as class
 use Rattle.gtd_hours_mended.specs.declared.rule.MendedRule.{MendedRule}
 
@@ -64,11 +65,11 @@ abbrev pub behind_years : MendedRule → List ℕ
 behind_years rule = spaced (spaced (month_days_text rule) (weeks_text rule)) (days_text rule)
 
 -- One year by itself is written as a range if other selectors follow.
-abbrev pub with_years : List ℕ → List Selector → List ℕ
-with_years behind years = spaced (kind_text (not (is_nothing behind)) years) behind
+abbrev pub with_years : List ℕ → List Bool → List Selector → List ℕ
+with_years behind marks years = spaced (years_text (not (is_nothing behind)) marks years) behind
 
 abbrev pub selectors_text : MendedRule → List ℕ
-selectors_text rule = with_years (behind_years rule) (selectors_of class.Years (kinds_of rule))
+selectors_text rule = with_years (behind_years rule) rule.every.items (selectors_of class.Years (kinds_of rule))
 
 -- ---- words
 

@@ -17,6 +17,7 @@ mod selectors;
 mod sound;
 mod times;
 mod written;
+mod years;
 
 pub use mender::mended_hours;
 pub use written::mended_as_written;

@@ -110,6 +110,7 @@ fn rule_with(
     ensures { IfOk result (λ rule. IsMade comment.now from.now forms.now rule) }
 {
     let own_forms = copy_of(alloc, first_forms(forms, times_in(&own)))?;
+    let every = copy_of(alloc, from.every.as_slice())?;
     let dates = copy_of(alloc, from.dates.as_slice())?;
     let easter = copy_of(alloc, from.easter.as_slice())?;
     let holidays = copy_of(alloc, from.holidays.as_slice())?;
@@ -117,6 +118,7 @@ fn rule_with(
     Ok(MendedRule {
         link: from.link,
         own,
+        every,
         dates,
         easter,
         holidays,

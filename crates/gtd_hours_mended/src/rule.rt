@@ -11,6 +11,8 @@ pub struct MendedRule {
     pub link: Link,
     /// The hours of its own text: one rule, with a range of times for each of its forms of times.
     pub own: Hours,
+    /// Of each of its years, whether it has no last one.
+    pub every: Vec<bool>,
     /// Its ranges of days that move.
     pub dates: Vec<Selector>,
     /// Its days of Easter.

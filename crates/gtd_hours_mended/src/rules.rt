@@ -1,7 +1,7 @@
 //! Rules, as they are written.
 
 ghost use Rattle.std.specs.Prelude.{◌≡◌, ◌++◌, IfOk, OnOk, codes, not};
-ghost use Rattle.gtd_hours.specs.Written.{is_also, kind_text, link_text};
+ghost use Rattle.gtd_hours.specs.Written.{is_also, link_text};
 ghost use Rattle.gtd_hours_mended.specs.Joining.{is_nothing, spaced};
 ghost use Rattle.gtd_hours_mended.specs.Rules.{behind_years, closes, days_text, first_closes, first_kinds, first_times};
 ghost use Rattle.gtd_hours_mended.specs.Rules.{goes_into, has_days, has_times, is_open, kinds_of, month_days_text};
@@ -15,8 +15,9 @@ use crate::classes::{Class, selectors_of};
 use crate::days::{push_easter_list, push_holidays};
 use crate::joining::push_joined;
 use crate::rule::MendedRule;
-use crate::selectors::{text_before, text_of};
+use crate::selectors::text_of;
 use crate::times::push_forms;
+use crate::years::years_text;
 use gtd_hours::{Kind, Link, Modifier, Rule, Selector, TimeRange};
 use std::alloc::{AllocError, Global};
 
@@ -119,22 +120,16 @@ fn behind_years(alloc: Global, rule: &MendedRule) -> Result<Vec<u8>, AllocError>
     Ok(text)
 }
 
-// Years, before other selectors or by themselves.
-fn years_text(alloc: Global, follows: bool, years: &[Selector]) -> Result<Vec<u8>, AllocError>
-    ensures { IfOk result (λ text. text.items ≡ kind_text follows years.now) }
-{
-    if follows {
-        text_before(alloc, years)
-    } else {
-        text_of(alloc, years)
-    }
-}
-
 // Years, and other selectors behind them.
-fn with_years(alloc: Global, behind: &[u8], years: &[Selector]) -> Result<Vec<u8>, AllocError>
-    ensures { IfOk result (λ text. text.items ≡ with_years behind.now years.now) }
+fn with_years(
+    alloc: Global,
+    behind: &[u8],
+    marks: &[bool],
+    years: &[Selector],
+) -> Result<Vec<u8>, AllocError>
+    ensures { IfOk result (λ text. text.items ≡ with_years behind.now marks.now years.now) }
 {
-    let mut text = years_text(alloc, !behind.is_empty(), years)?;
+    let mut text = years_text(alloc, !behind.is_empty(), marks, years)?;
     push_joined(&mut text, b' ', behind)?;
     Ok(text)
 }
@@ -144,7 +139,12 @@ fn selectors_text(alloc: Global, rule: &MendedRule) -> Result<Vec<u8>, AllocErro
 {
     let behind = behind_years(alloc, rule)?;
     let years = selectors_of(alloc, Class::Years, kinds_of(rule))?;
-    with_years(alloc, behind.as_slice(), years.as_slice())
+    with_years(
+        alloc,
+        behind.as_slice(),
+        rule.every.as_slice(),
+        years.as_slice(),
+    )
 }
 
 // ---- words

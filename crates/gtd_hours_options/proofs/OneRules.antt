@@ -18,10 +18,11 @@ use Rattle.gtd_hours_holidays.specs.declared.row.HolidayRow.{HolidayRow}
 use Rattle.gtd_hours_holiday_rules.specs.Rules.{Said, said_by}
 use Rattle.gtd_hours_holiday_rules.specs.declared.rules.HolidayRule.{HolidayRule}
 use Rattle.gtd_hours_known.specs.Easter.{AreEasterDays, IsOwnHours, more_days}
-use Rattle.gtd_hours_known.specs.Given.{no_easter_years, none_given, or_later}
+use Rattle.gtd_hours_known.specs.Given.{no_easter_years, no_last_year, none_given, or_later}
 use Rattle.gtd_hours_known.specs.Needs.{first_need, need_of, not_known, some_falls_back}
 use Rattle.gtd_hours_known.specs.Rules.{AreAllSaid, AreGivenDays, AreHolidayRules, AreSpoken, AreWithHolidays, HasHolidays}
 use Rattle.gtd_hours_known.specs.Rules.{IsHolidayRule, IsHolidayUncovered, IsUncoveredBy, IsUncoveredIn, WithAny}
+use Rattle.gtd_hours_known.specs.Until.{AreHoursUntil}
 use Rattle.gtd_hours_known.specs.declared.known.Known.{Known}
 use Rattle.gtd_hours_dated.specs.Dated.{IsDatedHours}
 use Rattle.gtd_hours_text.specs.facts.SameRules.{SameRules}
@@ -56,7 +57,9 @@ need_same : (known : Known) (x y : HolidayRule) (xs ys : List HolidayRule) → s
     → some_falls_back xs ≡ some_falls_back ys → need_of known x xs ≡ need_of known y ys
 need_same known x y xs ys s rest = λ i.
     or_later (
-    or_later (no_easter_years known.years ((s i).easter) ((s i).easter_places)) (none_given known ((s i).holidays) ((s i).places))
+    or_later (no_last_year known.years ((s i).every_place))
+    (or_later (no_easter_years known.years ((s i).easter) ((s i).easter_places))
+    (none_given known ((s i).holidays) ((s i).places)))
     )
     (if is_fallback ((s i).link) && not (rest i) then None else not_known ((s i).unknown))
 
@@ -80,7 +83,9 @@ own_of : (known : Known) (x y : HolidayRule) (hours : Hours) → said_by x ≡ s
 own_of known x y hours same p = record {
   easter = p.easter;
   are = subst (λ (s : Said). AreEasterDays known s.easter p.easter) same p.are;
-  stands = subst (λ (s : Said). IsDatedHours s.text (more_days s.dates s.easter p.easter) hours) same p.stands;
+  dated = p.dated;
+  stands = subst (λ (s : Said). IsDatedHours s.text (more_days s.dates s.easter p.easter) p.dated) same p.stands;
+  until = subst (λ (s : Said). AreHoursUntil known.years s.every_place s.every p.dated hours) same p.until;
 }
 
 own_rules : (known : Known) (x y : HolidayRule) (a b : Hours) → said_by x ≡ said_by y → IsOwnHours known x a

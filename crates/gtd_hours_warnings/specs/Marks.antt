@@ -78,13 +78,13 @@ pub record AddsWholeDays (text : List ℕ) (form : Option StrictForm) (before af
   pub are : AreWholeDays (strict_text text form) places
   pub put : AddsWholeDaysAt text form places before after
 
--- ---- holidays
+-- ---- holidays, Easter, and years without a last one
 
 -- the years as a warning names them: `F-L`, also if they are the same
 abbrev pub years_text : KnownYears → List ℕ
 years_text years = decimal years.first ++ codes "-" ++ decimal years.last
 
--- The warning that the holiday at this place, and all others, are known in these years alone.
+-- The warning that what needs years at this place, and all else that needs them, is known in these years alone.
 pub record IsKnownYearsWarning (place : ℕ) (years : KnownYears) (w : Warning) : Type 0 where
   pub kind : w.kind ≡ kind.KnownYears
   pub at : w.place ≡ place
@@ -96,7 +96,7 @@ AddsYears place None before after = after ≡ before
 AddsYears place (Some years) before after =
     (w : Warning) × IsKnownYearsWarning place years w × (after ≡ put_in w before)
 
--- Of a text without a first holiday, nothing is put for the years.
+-- Of a text in which nothing needs years, nothing is put for them.
 abbrev pub AddsYearsIf : Option ℕ → Option KnownYears → List Warning → List Warning → Type 0
 AddsYearsIf None years before after = after ≡ before
 AddsYearsIf (Some place) years before after = AddsYears place years before after
@@ -105,7 +105,7 @@ AddsYearsIf (Some place) years before after = AddsYears place years before after
 
 -- The warnings of a text from which these hours are read, if holidays are known in these years: of what is written loosely, in
 -- its order; and put to these, each at its place, first those of its remarks, then those of its rules that are not known, those
--- of its rules that say days alone, those of its rules that hide hours and, if it has a holiday, the years.
+-- of its rules that say days alone, those of its rules that hide hours and, if something needs them, the years.
 pub record AreWarningsWith (text : List ℕ) (read : KnownHours) (years : Option KnownYears) (found : List Warning) : Type 0 where
   pub loose : List Warning
   pub remarked : List Warning

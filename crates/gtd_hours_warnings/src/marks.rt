@@ -140,7 +140,7 @@ fn add_not_known(
     Ok(())
 }
 
-// The warning that the holiday at this place, and all others, are known in these years alone.
+// The warning that what needs years at this place, and all else that needs them, is known in these years alone.
 fn known_years_warning(
     alloc: Global,
     place: usize,
@@ -177,7 +177,7 @@ fn add_years(
     }
 }
 
-// Adds the warning of the first holiday, if there is one.
+// Adds the warning of what needs years first, if something does.
 fn add_years_if(
     alloc: Global,
     warnings: &mut Vec<Warning>,
@@ -195,8 +195,8 @@ fn add_years_if(
 /// The warnings of a text from which these hours are read, in the order of their places: where it is written loosely; its
 /// comments on open rules without a word that says so, each with that word; its fallback rules that are unknown; the rules that
 /// say days alone, and behind which a comma begins another rule; the rules that hide hours of an earlier one, each with the
-/// hours that stay if a comma stands before it; and at its first holiday the years in which holidays are known, if they are
-/// given. `AllocError` is answered only if memory was refused.
+/// hours that stay if a comma stands before it; and at the first holiday, Easter or slash of years without a last one the years
+/// in which these are known, if they are given. `AllocError` is answered only if memory was refused.
 pub fn warnings_with(
     alloc: Global,
     text: &[u8],

@@ -19,7 +19,7 @@ pub enum WarningKind {
     Loose,
     /// A rule that hides hours of an earlier one.
     Hides,
-    /// A holiday, which is known in some years alone.
+    /// A holiday, Easter or years without a last one, which are known in some years alone.
     KnownYears,
     /// A comment on an open rule without a word that says that it is open.
     Remark,
@@ -34,8 +34,8 @@ pub enum WarningKind {
 pub struct Warning {
     /// What it is of.
     pub kind: WarningKind,
-    /// The number of bytes before the token, before the rule, before the holiday, before the comment, or before the word or the
-    /// comment that makes a fallback rule unknown.
+    /// The number of bytes before the token, before the rule, before the holiday, Easter or the slash of years without a last
+    /// one, before the comment, or before the word or the comment that makes a fallback rule unknown.
     pub place: usize,
     /// What is written there strictly; or the hours with a comma before the rule, as they are strictly written; or the years; or
     /// the comment behind the word that it lacks; or the word that a rule lacks. It may be empty.
