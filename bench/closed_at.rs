@@ -1,5 +1,5 @@
-//! `closed_at FILE COUNT`: the questions of `bench/closed_at/main.rattle`, answered from a plain table: a hash map of elements, and
-//! for each row a tree of its hours. It reads hours of the day with weekdays alone, such as `[(t2t3h7){h2}]+[(h15m30){h3}]`.
+//! `closed_at FILE COUNT`: the questions of `bench/closed_at/main.rattle`, answered from a plain table: a hash map of elements,
+//! and for each row a tree of its hours. It reads hours of the day with weekdays alone, such as `[(t2t3h7){h2}]+[(h15m30){h3}]`.
 use std::collections::HashMap;
 
 const ELEMENTS: u64 = 65_536;

@@ -2,8 +2,8 @@
 """The texts of tests/hours by KOpeningHours and by the models of this project: prints each text for which the minutes of 2023
 to 2026 differ, how many differ, and the first of them. With STEP, only each STEP-th minute is looked at, by itself.
 
-These are the plain hours of texts.csv, by tests/hours_model.py; and of moving.csv, easter.csv, years.csv and remarks.csv those texts
-that need no table and no option but the years 2023 to 2026, by tests/wider_model.py, of which each 30th minute is looked at.
+These are the plain hours of texts.csv, by tests/hours_model.py; and of moving.csv, easter.csv, years.csv and remarks.csv those
+texts that need no table and no option but the years 2023 to 2026, by tests/wider_model.py, of which each 30th minute is looked at.
 
 Usage: bench/kopeninghours/compare.py DRIVER [STEP]    (bench/kopeninghours.sh builds the driver)
 """
@@ -55,7 +55,8 @@ def difference(text, line, minutes, step):
         return None
     count = sum(pair[0] != pair[1] for pair in zip(ours, theirs))
     at = hours.first_difference(ours, theirs)
-    return f"{count} of {len(ours)} moments, the first at {hours.stamp(at * step)}: {'open' if theirs[at] else 'closed'} there, and not here"
+    said = "open" if theirs[at] else "closed"
+    return f"{count} of {len(ours)} moments, the first at {hours.stamp(at * step)}: {said} there, and not here"
 
 
 def wider_texts():

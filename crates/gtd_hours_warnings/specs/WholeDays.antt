@@ -9,7 +9,8 @@ use Rattle.gtd_hours_moments.specs.Tokens.{IsTimeFault}
 use Rattle.gtd_hours_moments.specs.declared.placed.Placed.{Placed}
 use Rattle.gtd_hours_moments.specs.declared.text.MomentText.{MomentText}
 
--- In a text whose times are all ranges of clock times, such rules begin at these places. A text that is not whole tokens has none.
+-- In a text whose times are all ranges of clock times, such rules begin at these places. A text that is not whole tokens has
+-- none.
 pub data ArePlainDays (text : List ℕ) (places : List ℕ) : Type 0 where
   read : (found : HolidayText) → IsHolidayText text found → places ≡ found.whole_days.items → ArePlainDays text places
   unread : (bad : ℕ) → IsBadPlace text bad → places ≡ [] → ArePlainDays text places
