@@ -25,6 +25,7 @@ use std::alloc::{AllocError, Global};
 struct Side<'a> {
     steps: &'a [Step],
     kept: &'a [Kept],
+    alike: &'a Alike,
     direction: Direction,
     others: &'a [Row],
 }
@@ -86,7 +87,7 @@ fn group_of(alloc: Global, side: Side, vehicle: u8) -> Result<Option<Row>, Alloc
     requires kept { AreKept side.steps.now side.kept.now }
     ensures { IfOk result (IsGroupOf side.entry.steps.now side.entry.direction side.entry.others.now vehicle) }
 {
-    match timing_of(alloc, side.steps, vehicle)? {
+    match timing_of(alloc, side.steps, side.alike.whole(vehicle), vehicle)? {
         Timing::Never => Ok(None),
         Timing::Closed(domain) => {
             let types = types_like(side, &domain);
@@ -185,6 +186,7 @@ pub(crate) fn groups_in(
     let side = Side {
         steps,
         kept: kept.as_slice(),
+        alike,
         direction,
         others,
     };

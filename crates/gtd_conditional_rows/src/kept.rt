@@ -29,7 +29,7 @@ fn kept_of(alloc: Global, steps: &[Step], alike: &Alike, vehicle: u8) -> Result<
 {
     match alike.lower(vehicle) {
         Some(lower) => Ok(Kept::As(lower)),
-        None => Ok(Kept::Own(timing_of(alloc, steps, vehicle)?)),
+        None => Ok(Kept::Own(timing_of(alloc, steps, alike.whole(vehicle), vehicle)?)),
     }
 }
 

@@ -1,6 +1,6 @@
 //! When steps close an element for a vehicle type.
 
-ghost use Rattle.std.specs.Prelude.{◌≡◌, ◌≤◌, ◌↔◌, Some, None, IfOk, IsTrue, if◌then◌else◌};
+ghost use Rattle.std.specs.Prelude.{◌≡◌, ◌≤◌, ◌↔◌, Some, None, IfOk, IsTrue};
 ghost use Rattle.gtd_core.specs.Limits.{most_basic_domains};
 ghost use Rattle.gtd_conditional_rows.specs.Timing.{times_in, timing_times};
 ghost use Rattle.gtd_conditional_rows.specs.Times as spec;
@@ -95,26 +95,14 @@ fn is_whole(step: &Step, vehicle: u8) -> bool
     step.hours.is_none() && step.types.has(vehicle)
 }
 
-// One of two lists.
-fn chosen<'a>(first: bool, steps: &'a [Step], others: &'a [Step]) -> &'a [Step]
-    ensures { result.now ≡ (if first then steps.now else others.now) }
+/// The steps from the one at a place on, if it applies to a vehicle type at all seconds, and else all steps: they do the same.
+pub(crate) fn from_whole<'a>(steps: &'a [Step], place: usize, vehicle: u8) -> &'a [Step]
+    ensures { times_of result.now vehicle ≡ times_of steps.now vehicle }
 {
-    if first { steps } else { others }
-}
-
-// The steps from the last one on that applies to a vehicle type at all seconds; all steps if there is none. So nothing is built
-// that a later step makes useless.
-fn from_last_whole<'a>(steps: &'a [Step], vehicle: u8) -> &'a [Step]
-    ensures { times_after result.now vehicle Never ≡ times_after steps.now vehicle Never }
-{
-    let mut from = steps;
-    let mut rest = steps;
-    while let Some((step, more)) = rest.split_first() {
-        let whole = is_whole(step, vehicle);
-        from = chosen(whole, rest, from);
-        rest = more;
+    match steps.get(place) {
+        Some(step) if is_whole(step, vehicle) => &steps[place..],
+        _ => steps,
     }
-    from
 }
 
 fn after(alloc: Global, steps: &[Step], vehicle: u8) -> Result<Times, AllocError>
@@ -129,12 +117,18 @@ fn after(alloc: Global, steps: &[Step], vehicle: u8) -> Result<Times, AllocError
     Ok(times)
 }
 
-// When steps close an element for a vehicle type.
-pub(crate) fn timing_of(alloc: Global, steps: &[Step], vehicle: u8) -> Result<Timing, AllocError>
+/// When steps close an element for a vehicle type. What comes before the step at this place is not gone over if that step applies to
+/// the type at all seconds.
+pub(crate) fn timing_of(
+    alloc: Global,
+    steps: &[Step],
+    place: usize,
+    vehicle: u8,
+) -> Result<Timing, AllocError>
     requires { leaves_in (times_of steps.now vehicle) ≤ most_basic_domains }
     ensures { IfOk result (λ timing. timing_times timing ≡ times_of steps.now vehicle) }
 {
-    match after(alloc, from_last_whole(steps, vehicle), vehicle)? {
+    match after(alloc, from_whole(steps, place, vehicle), vehicle)? {
         Times::Never => Ok(Timing::Never),
         Times::Always => Ok(Timing::Closed(None)),
         Times::Within(expr) => match Domain::new(expr) {
