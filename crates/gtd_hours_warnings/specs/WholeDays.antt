@@ -19,8 +19,8 @@ abbrev pub written_places : ℕ → List Placed → List ℕ → List ℕ
 written_places end forms [] = []
 written_places end forms (place ∷ places) = written_place place end forms ∷ written_places end forms places
 
--- Where such rules begin in any text. In its checked text a range of clock times stands for each form of times: they are the rules
--- of that, each where it is written. A text that is not tokens has none.
+-- Where such rules begin in any text. In its checked text a range of clock times stands for each form of times: they are rules of
+-- that, each where it is written. A text that is not tokens has none.
 pub data AreWholeDays (text : List ℕ) (places : List ℕ) : Type 0 where
   tokens : (moments : MomentText) → (plain : List ℕ) → IsMomentText text moments
       → ArePlainDays moments.checked.text.items plain
