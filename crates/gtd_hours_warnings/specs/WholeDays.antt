@@ -1,4 +1,4 @@
--- The rules that say days alone, and behind which a comma begins another rule.
+-- The rules that say days alone, and behind which a comma begins another rule: where they begin.
 use Rattle.std.specs.Prelude.{◌≡◌, ℕ, List, [], ◌∷◌, length}
 use Rattle.gtd_hours_holiday_rules.specs.Reading.{IsHolidayText}
 use Rattle.gtd_hours_holiday_rules.specs.declared.text.HolidayText.{HolidayText}
@@ -9,8 +9,7 @@ use Rattle.gtd_hours_moments.specs.Tokens.{IsTimeFault}
 use Rattle.gtd_hours_moments.specs.declared.placed.Placed.{Placed}
 use Rattle.gtd_hours_moments.specs.declared.text.MomentText.{MomentText}
 
--- In a text whose times are all ranges of clock times, such rules begin at these places. A text that is not whole tokens has
--- none.
+-- Where such rules begin in a text whose times are all ranges of clock times. A text that is not whole tokens has none.
 pub data ArePlainDays (text : List ℕ) (places : List ℕ) : Type 0 where
   read : (found : HolidayText) → IsHolidayText text found → places ≡ found.whole_days.items → ArePlainDays text places
   unread : (bad : ℕ) → IsBadPlace text bad → places ≡ [] → ArePlainDays text places
@@ -20,8 +19,8 @@ abbrev pub written_places : ℕ → List Placed → List ℕ → List ℕ
 written_places end forms [] = []
 written_places end forms (place ∷ places) = written_place place end forms ∷ written_places end forms places
 
--- In any text such rules begin at these places: they are the rules of the text in which a range of times stands for each form of
--- times, where these are written. A text that is not tokens has none.
+-- Where such rules begin in any text. In its checked text a range of clock times stands for each form of times: they are rules of
+-- that, each where it is written. A text that is not tokens has none.
 pub data AreWholeDays (text : List ℕ) (places : List ℕ) : Type 0 where
   tokens : (moments : MomentText) → (plain : List ℕ) → IsMomentText text moments
       → ArePlainDays moments.checked.text.items plain
