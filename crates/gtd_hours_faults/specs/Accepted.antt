@@ -24,7 +24,7 @@ abbrev pub accepted_known : KnownFault → List ℕ
 accepted_known (fault.Hours why) = accepted_hours why.kind
 accepted_known (fault.Ambiguous place) = codes "what is read in one way: weekdays in English, and times such as 08:00"
 accepted_known (fault.Holidays place) = codes "a table of such holidays: give one with --holidays FILE"
-accepted_known (fault.Years place) = codes "the years in which holidays are known: give them with --years F-L"
+accepted_known (fault.Years place) = codes "known years, such as 2024-2030: give them with --years F-L"
 accepted_known (fault.Uncovered place day) =
     codes "a table with all holidays of these years, and rows that say so: PH-covered or SH-covered"
 accepted_known (fault.Unknown place) =
