@@ -38,7 +38,7 @@ fn accepted_known(fault: KnownFault) -> &'static str
             "what is read in one way: weekdays in English, and times such as 08:00"
         }
         KnownFault::Holidays { .. } => "a table of such holidays: give one with --holidays FILE",
-        KnownFault::Years { .. } => { "known years, such as 2024-2030: give them with --years F-L" }
+        KnownFault::Years { .. } => "known years, such as 2024-2030: give them with --years F-L",
         KnownFault::Uncovered { .. } => {
             "a table with all holidays of these years, and rows that say so: PH-covered or SH-covered"
         }
