@@ -9,6 +9,7 @@ mod comments;
 mod every;
 mod fronts;
 mod items;
+pub mod laws;
 mod offsets;
 mod stop;
 mod tokens;
