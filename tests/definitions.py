@@ -359,7 +359,7 @@ def statement_of(crate, file, function, clauses):
 
 
 # Files that make values of types with a range, which take the fact that a value is in it. They may name facts of their own crate.
-MAKING_VALUES = ["gtd_hours_items/specs/Offsets.antt"]
+MAKING_VALUES = ["gtd_hours_items/specs/Offsets.antt", "gtd_hours_known/specs/Until.antt"]
 
 
 def citing_lemmas():
