@@ -124,13 +124,25 @@ fn are_alike(steps: &[Step], alike: &Alike) -> bool
     true
 }
 
+// Whether each vehicle type is kept itself. Then the steps need not be looked at.
+fn is_each_itself(alike: &Alike) -> bool
+    ensures { IsTrue result → (t : ℕ) → IsVehicle t → first_of alike.now t ≡ t }
+{
+    for vehicle in 1..100 {
+        if alike.first[usize::from(vehicle)] != vehicle {
+            return false;
+        }
+    }
+    true
+}
+
 /// Of each vehicle type the lowest one for which the same steps apply. The steps are gone over twice, whereas those of a type are
 /// gone over several times when its rows are made.
 pub(crate) fn alike_in(steps: &[Step]) -> Alike
     ensures { AreAlike steps.now result }
 {
     let alike = guessed(steps);
-    if are_alike(steps, &alike) {
+    if is_each_itself(&alike) || are_alike(steps, &alike) {
         return alike;
     }
     each_itself(alike.whole)

@@ -74,9 +74,9 @@ fn is_time(what: What) -> bool
     }
 }
 
-/// Whether it is a number, or begins with one.
-pub fn is_number(what: What) -> bool
-    ensures answer { result ≡ is_number what }
+// Whether it is a number, or begins with one.
+fn is_number(what: What) -> bool
+    ensures { result ≡ is_number what }
 {
     match what {
         What::Token(TokenKind::Number { .. }) => true,

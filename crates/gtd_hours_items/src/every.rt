@@ -1,7 +1,8 @@
 //! Years without a last one, of which there are more than a domain holds, among tokens.
 
 ghost use Rattle.std.specs.Prelude.{◌≡◌};
-ghost use Rattle.gtd_hours_items.specs.Every.{are_many, every_front, is_many, is_stroke};
+ghost use Rattle.gtd_hours_grammar.specs.Faults.{is_slash};
+ghost use Rattle.gtd_hours_items.specs.Every.{are_many, every_front, is_many};
 
 use gtd_hours_tokens::{Token, TokenKind};
 
@@ -27,8 +28,8 @@ fn are_many(first: TokenKind, step: TokenKind) -> bool
     }
 }
 
-fn is_stroke(kind: TokenKind) -> bool
-    ensures { result ≡ is_stroke kind }
+fn is_slash(kind: TokenKind) -> bool
+    ensures { result ≡ is_slash kind }
 {
     match kind {
         TokenKind::Slash => true,
@@ -43,7 +44,7 @@ pub fn every_front(token: Token, later: &[Token]) -> Option<(usize, usize)>
 {
     match later {
         [slash, step, ..] => {
-            if is_stroke(slash.kind) && are_many(token.kind, step.kind) {
+            if is_slash(slash.kind) && are_many(token.kind, step.kind) {
                 Some((slash.from, step.to))
             } else {
                 None

@@ -16,7 +16,7 @@ mod tokens;
 
 pub use coming::{
     begins_date, begins_dates, begins_holiday, begins_month, begins_month_days, begins_number,
-    begins_time, begins_weekday, begins_year, is_number, is_weekday, leads,
+    begins_time, begins_weekday, begins_year, is_weekday, leads,
 };
 pub use items::{Item, What, items_of};
 pub use stop::NoHolidayText;

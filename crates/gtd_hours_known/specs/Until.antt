@@ -1,5 +1,5 @@
 -- Hours whose years without a last one, of which there are more than a domain holds, end with the last of the known years.
-use Rattle.std.specs.Prelude.{◌≡◌, ℕ, Bool, false, if◌then◌else◌, nat_le, List, [], ◌∷◌, ◌++◌, drop, Option, Some, None}
+use Rattle.std.specs.Prelude.{◌≡◌, ℕ, Bool, false, if◌then◌else◌, max, nat_le, List, [], ◌∷◌, ◌++◌, drop, Option, Some, None}
 use Rattle.gtd_hours.specs.Writable.{selectors}
 use Rattle.gtd_hours.specs.declared.hours.Hours.{Hours}
 use Rattle.gtd_hours.specs.declared.hours.Rule.{Rule}
@@ -7,13 +7,13 @@ use Rattle.gtd_hours.specs.declared.hours.Selector.{Selector}
 use Rattle.gtd_hours.specs.declared.hours.Selector.TheVariants as selector
 use Rattle.gtd_hours.specs.declared.hours.Years.{Years}
 use Rattle.gtd_hours_holidays.specs.declared.known_years.KnownYears.{KnownYears}
-use Rattle.gtd_hours_known.specs.facts.UntilFacts.{later_year, until_in_range}
+use Rattle.gtd_hours_known.specs.facts.UntilFacts.{until_in_range}
 
 -- The same years up to the last of the known ones, which is not before the first of them.
 abbrev pub up_to : KnownYears → Years → Years
 up_to known x = record {
   first = x.first;
-  last = later_year x.first known.last;
+  last = max x.first known.last;
   step = x.step;
   in_range = until_in_range known x;
 }

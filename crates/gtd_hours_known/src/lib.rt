@@ -27,3 +27,4 @@ pub use known::{Known, KnownHours};
 pub use manner::{placed_fault, placed_read, read_known_hours_in, token_fault};
 pub use reader::read_known_hours;
 pub use selectors::listed_selectors;
+pub use until::split_mark;

@@ -6,7 +6,6 @@ ghost use Rattle.gtd_hours_known.specs.Given.{rule_lacks};
 ghost use Rattle.gtd_hours_known.specs.Until.{AreHoursUntil, AreRulesUntil, IsRuleUntil, all_until, first_mark, selector_until};
 ghost use Rattle.gtd_hours_known.specs.Until.{kinds_until, until, up_to, years_until};
 ghost use Rattle.gtd_hours_known.specs.declared.rules.RulesStop.TheVariants as stop;
-ghost use Rattle.gtd_hours_known.specs.facts.UntilFacts.{later_year};
 
 use crate::known::Known;
 use crate::rules::RulesStop;
@@ -15,19 +14,13 @@ use gtd_hours_holiday_rules::HolidayRule;
 use gtd_hours_holidays::KnownYears;
 use std::alloc::{AllocError, Global};
 
-fn later_year(one: u16, other: u16) -> u16
-    ensures { result ≡ later_year one other }
-{
-    if one <= other { other } else { one }
-}
-
 // The same years up to the last of the known ones.
 fn up_to(known: KnownYears, years: Years) -> Years
     ensures { result ≡ up_to known years }
 {
     Years {
         first: years.first,
-        last: later_year(years.first, known.last),
+        last: years.first.max(known.last),
         step: years.step,
     }
 }
@@ -74,22 +67,14 @@ fn push_until(
     Ok(())
 }
 
-fn first_mark(marks: &[bool]) -> bool
-    ensures { result ≡ first_mark marks.now }
-{
-    match marks.first() {
-        None => false,
-        Some(mark) => *mark,
-    }
-}
-
-// The marks behind the first.
-fn later_marks(marks: &[bool]) -> &[bool]
-    ensures { result.now ≡ drop 1 marks.now }
+/// The first of some marks, and those behind it. Where there is none, nothing is marked.
+pub fn split_mark(marks: &[bool]) -> (bool, &[bool])
+    ensures mark { result.0 ≡ first_mark marks.now }
+    ensures later { result.1.now ≡ drop 1 marks.now }
 {
     match marks.split_first() {
-        None => marks,
-        Some((_, later)) => later,
+        None => (false, marks),
+        Some((mark, later)) => (*mark, later),
     }
 }
 
@@ -106,8 +91,9 @@ fn all_until(
     let mut left = marks;
     let mut rest = selectors;
     while let Some((selector, more)) = rest.split_first() {
-        push_until(&mut made, known, first_mark(left), *selector)?;
-        left = later_marks(left);
+        let (mark, later) = split_mark(left);
+        push_until(&mut made, known, mark, *selector)?;
+        left = later;
         rest = more;
     }
     Ok(made)

@@ -1,13 +1,13 @@
 //! The years of a rule, as they are written.
 
-ghost use Rattle.std.specs.Prelude.{◌≡◌, ◌++◌, [], IfOk, OnOk, drop};
+ghost use Rattle.std.specs.Prelude.{◌≡◌, ◌++◌, [], IfOk, OnOk};
 ghost use Rattle.gtd_hours.specs.Written.{kind_text};
-ghost use Rattle.gtd_hours_known.specs.Until.{first_mark};
 ghost use Rattle.gtd_hours_mended.specs.Years.{every_text, marked_text, some_mark, with_list, year_text, years_text};
 
 use crate::joining::push_joined;
 use crate::selectors::{text_before, text_of};
 use gtd_hours::{Selector, Years};
+use gtd_hours_known::split_mark;
 use itoa::Buffer;
 use std::alloc::{AllocError, Global};
 
@@ -23,25 +23,6 @@ fn some_mark(marks: &[bool]) -> bool
         rest = more;
     }
     false
-}
-
-fn first_mark(marks: &[bool]) -> bool
-    ensures { result ≡ first_mark marks.now }
-{
-    match marks.first() {
-        None => false,
-        Some(mark) => *mark,
-    }
-}
-
-// The marks behind the first.
-fn later_marks(marks: &[bool]) -> &[bool]
-    ensures { result.now ≡ drop 1 marks.now }
-{
-    match marks.split_first() {
-        None => marks,
-        Some((_, later)) => later,
-    }
 }
 
 fn push_every(out: &mut Vec<u8>, years: Years) -> Result<(), AllocError>
@@ -91,9 +72,10 @@ fn push_list(
     let mut left = marks;
     let mut rest = years;
     while let Some((selector, more)) = rest.split_first() {
-        let text = year_text(alloc, first_mark(left), *selector)?;
+        let (mark, later) = split_mark(left);
+        let text = year_text(alloc, mark, *selector)?;
         push_joined(out, b',', text.as_slice())?;
-        left = later_marks(left);
+        left = later;
         rest = more;
     }
     Ok(())

@@ -1,21 +1,17 @@
 -- Years that end later, but not after the known years, are years of the calendar.
 use Rattle.std.proofs.Common.{◌≤◌, ℕ, arith}
-use Rattle.std.specs.Prelude.{nat_le, if◌then◌else◌}
+use Rattle.std.specs.Prelude.{max}
 use Rattle.gtd_hours.specs.Ranges.{IsYears}
 use Rattle.gtd_hours.specs.declared.hours.Years.{Years}
 use Rattle.gtd_hours_holidays.specs.declared.known_years.KnownYears.{KnownYears}
 
--- the later one of two years
-abbrev pub later_year : ℕ → ℕ → ℕ
-later_year one other = if nat_le one other then other else one
+in_order : (one other : ℕ) → one ≤ max one other
+in_order one other = omega arith
 
-in_order : (one other : ℕ) → one ≤ later_year one other
-in_order one other = grind arith
+at_most : (one other most : ℕ) → one ≤ most → other ≤ most → max one other ≤ most
+at_most one other most a b = omega (arith, a, b)
 
-at_most : (one other most : ℕ) → one ≤ most → other ≤ most → later_year one other ≤ most
-at_most one other most a b = grind arith
-
-pub until_in_range : (known : KnownYears) (x : Years) → IsYears x.first (later_year x.first known.last) x.step
+pub until_in_range : (known : KnownYears) (x : Years) → IsYears x.first (max x.first known.last) x.step
 until_in_range known x =
     let own = x.in_range in
     let high : x.first ≤ 2799 = omega (arith, own.1, own.2) in
