@@ -320,11 +320,12 @@ def up_to_last(item, years):
 
 
 def known(items, table, years):
-    """Selectors, with the days of holidays in the years as ranges of dates."""
+    """Selectors, with the days of all holidays in the years as ranges of dates where the first holiday stands."""
     items = [found for item in items for found in up_to_last(item, years)]
-    days = set()
-    for item in items:
-        if isinstance(item, (Holiday, EasterRange)):
-            days |= days_in(item, table, years)
+    holidays = [item for item in items if isinstance(item, (Holiday, EasterRange))]
+    if not holidays:
+        return items
+    days = set().union(*(days_in(item, table, years) for item in holidays))
     runs = [("dated", holidays_model.date(first), holidays_model.date(last)) for first, last in holidays_model.runs_of(days)]
-    return [item for item in items if not isinstance(item, (Holiday, EasterRange))] + runs
+    before = items[:items.index(holidays[0])]
+    return before + runs + [item for item in items[len(before):] if item not in holidays]

@@ -1,10 +1,11 @@
--- Each rule has a place for each of its holidays and its days of Easter: both lists grow together.
-use Rattle.std.proofs.Common.{◌≡◌, ℕ, List, [], ◌∷◌, ◌++◌, Bool, true, false, length, map, refl, sym, subst, arith}
-use Rattle.std.proofs.Common.{length-append}
+-- Each rule has a place for each of its holidays and its days of Easter, and its order has its holidays: the lists grow together.
+use Rattle.std.proofs.Common.{◌≡◌, ◌∙◌, ap, ℕ, zero, suc, List, [], ◌∷◌, ◌++◌, Bool, true, false, length, map, refl, sym}
+use Rattle.std.proofs.Common.{subst, arith, length-append, replicate}
 use Rattle.std.specs.Prelude.{if◌then◌else◌}
 use Rattle.gtd_hours_holiday_rules.specs.Reading.{HasParts}
-use Rattle.gtd_hours_holiday_rules.specs.Rules.{HavePlaces, Said, begins_rule, begun}
-use Rattle.gtd_hours_holiday_rules.specs.Rules.{link_behind, or_also, rules_from, said_by, with_item}
+use Rattle.gtd_hours_holiday_rules.specs.Rules.{HavePlaces, Said, begins_rule, begun, holidays_in}
+use Rattle.gtd_hours_holiday_rules.specs.Rules.{link_behind, or_also, rules_from, said_by, with_holiday, with_item}
+use Rattle.gtd_hours_days.specs.declared.listed.Listed.{Listed}
 use Rattle.gtd_hours_items.specs.declared.items.Item.{Item}
 use Rattle.gtd_hours_holiday_rules.specs.declared.parts.Part.{Part}
 use Rattle.gtd_hours_holiday_rules.specs.declared.role.Role.{Role}
@@ -16,20 +17,44 @@ both_more : {A : Type 0} (places : List ℕ) (days : List A) (place : ℕ) (x : 
 both_more places days place x e =
     omega (arith, e, length-append places (place ∷ []), length-append days (x ∷ []))
 
--- both places for each holiday, and for each day of Easter
+none_own : (count : ℕ) → holidays_in (replicate count false) ≡ 0
+none_own zero = refl
+none_own (suc count) = none_own count
+
+own_more : (order : List Bool) (count : ℕ) → holidays_in (order ++ replicate count false) ≡ holidays_in order
+own_more [] count = none_own count
+own_more (true ∷ order) count = ap suc (own_more order count)
+own_more (false ∷ order) count = own_more order count
+
+one_more : (order : List Bool) → holidays_in (order ++ true ∷ []) ≡ suc (holidays_in order)
+one_more [] = refl
+one_more (true ∷ order) = ap suc (one_more order)
+one_more (false ∷ order) = one_more order
+
+order_more : {A : Type 0} (order : List Bool) (days : List A) (x : A) → holidays_in order ≡ length days
+    → holidays_in (order ++ true ∷ []) ≡ length (days ++ x ∷ [])
+order_more order days x e = omega (arith, e, one_more order, length-append days (x ∷ []))
+
+-- places for each holiday and for each day of Easter, and an order with the holidays
 abbrev HasPlaces : Said → Type 0
-HasPlaces rule = (length rule.places ≡ length rule.holidays) × (length rule.easter_places ≡ length rule.easter)
+HasPlaces rule =
+    (length rule.places ≡ length rule.holidays) × (length rule.easter_places ≡ length rule.easter)
+    × (holidays_in rule.order ≡ length rule.holidays)
+
+with_one : (rule : Said) (h : Listed) (place : ℕ) → HasPlaces rule → HasPlaces (with_holiday rule h place)
+with_one rule h place e = (both_more rule.places rule.holidays place h e.0, e.1, order_more rule.order rule.holidays h e.2)
 
 item_placed : (text : List ℕ) (rule : Said) (r : Role) (item : Item) → HasPlaces rule → HasPlaces (with_item text rule r item)
 item_placed text rule role.Kept item e = e
+item_placed text rule (role.Weekdays count) item e = (e.0, e.1, own_more rule.order count ∙ e.2)
 item_placed text rule role.Year item e = e
 item_placed text rule (role.Every place) item e = e
-item_placed text rule (role.Leading h) item e = (both_more rule.places rule.holidays item.from h e.0, e.1)
-item_placed text rule (role.Listed h) item e = (both_more rule.places rule.holidays item.from h e.0, e.1)
+item_placed text rule (role.Leading h) item e = with_one rule h item.from e
+item_placed text rule (role.Listed h) item e = with_one rule h item.from e
 item_placed text rule role.Gone item e = e
 item_placed text rule role.Unwritten item e = e
 item_placed text rule (role.Dated days) item e = e
-item_placed text rule (role.Known days place) item e = (e.0, both_more rule.easter_places rule.easter place days e.1)
+item_placed text rule (role.Known days place) item e = (e.0, both_more rule.easter_places rule.easter place days e.1, e.2)
 item_placed text rule role.Undated item e = e
 item_placed text rule role.Doubtful item e = e
 item_placed text rule role.Misfit item e = e
@@ -45,12 +70,12 @@ either true xs ys p q = p
 either false xs ys p q = q
 
 rules_placed : (text : List ℕ) (rule : Said) (parts : List Part) → HasPlaces rule → HavePlaces (rules_from text rule parts)
-rules_placed text rule [] e = (e.0, e.1, tt)
+rules_placed text rule [] e = (e.0, e.1, e.2, tt)
 rules_placed text rule (p ∷ parts) e =
     either (begins_rule (link_behind p.role)) _ _
-    (e.0, e.1, rules_placed text (begun (or_also (link_behind p.role))) parts (refl, refl))
+    (e.0, e.1, e.2, rules_placed text (begun (or_also (link_behind p.role))) parts (refl, refl, refl))
     (rules_placed text (with_item text rule p.role p.item) parts (item_placed text rule p.role p.item e))
 
 pub places : (text : List ℕ) (parts : List Part) (read : HolidayText) → HasParts text parts read
     → HavePlaces (map said_by read.rules.items)
-places text parts read has = subst HavePlaces (sym has.rules) (rules_placed text _ parts (refl, refl))
+places text parts read has = subst HavePlaces (sym has.rules) (rules_placed text _ parts (refl, refl, refl))

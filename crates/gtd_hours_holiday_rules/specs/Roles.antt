@@ -16,8 +16,8 @@ use Rattle.gtd_hours_holiday_rules.specs.declared.behind.Position.{Position}
 use Rattle.gtd_hours_holiday_rules.specs.declared.role.Role.{Role}
 use Rattle.gtd_hours_holiday_rules.specs.declared.role.Role.TheVariants as role
 use Rattle.gtd_hours_holiday_rules.specs.Behind.{is_commented, is_faulty}
-use Rattle.gtd_hours_items.specs.Coming.{begins, begins_date, begins_month_days, is_dates, is_holiday}
-use Rattle.gtd_hours_items.specs.Coming.{is_month, is_number, is_time, is_weekday, is_year, leads}
+use Rattle.gtd_hours_items.specs.Coming.{begins, begins_date, begins_month_days, is_bracket, is_dates, is_holiday}
+use Rattle.gtd_hours_items.specs.Coming.{is_month, is_number, is_time, is_weekday, is_year, leads, places}
 
 -- a holiday where a list of days begins
 abbrev pub first_role : Listed → List Item → Role
@@ -75,30 +75,35 @@ comma_role behind.MonthDays l later = dates_comma true l later
 comma_role (behind.Moving beside) l later = dates_comma beside l later
 comma_role behind.Weeks l later = kept_if (begins is_number later)
 comma_role behind.Times l later = kept_if (begins is_time later)
-comma_role (behind.Places led) l later = role.Kept
+comma_role (behind.Places led) l later = role.Weekdays (places later)
 comma_role b l later = role.Begins link.Also
 
--- a weekday directly behind a holiday in a list of weekdays
-abbrev pub weekday_role : Behind → Last → Role
-weekday_role behind.Mixed last.Comma = role.Kept
-weekday_role behind.Mixed l = role.Doubtful
-weekday_role b l = role.Kept
+-- a weekday that does not end a range is one selector; of one with places in brackets each place is one
+abbrev pub begun_role : List Item → Role
+begun_role later = if begins is_bracket later then role.Kept else role.Weekdays 1
 
--- a bracket: holidays have none
-abbrev pub bracket_role : Behind → Role
-bracket_role behind.Holidays = role.Misfit
-bracket_role behind.Mixed = role.Misfit
-bracket_role b = role.Kept
+-- a weekday: directly behind a holiday in a list of weekdays people read it in two ways
+abbrev pub weekday_role : Behind → Last → List Item → Role
+weekday_role behind.Mixed last.Comma later = begun_role later
+weekday_role behind.Mixed l later = role.Doubtful
+weekday_role b last.Dash later = role.Kept
+weekday_role b l later = begun_role later
+
+-- a sign or a bracket, which becomes this where no holidays stand: these have none
+abbrev pub bracket_role : Role → Behind → Role
+bracket_role r behind.Holidays = role.Misfit
+bracket_role r behind.Mixed = role.Misfit
+bracket_role r b = r
 
 -- a sign: holidays and Easter have no more offsets here, and ranges that move have none
 abbrev pub sign_role : Behind → Last → Role
 sign_role b last.Dates = role.Misfit
 sign_role b last.Easter = role.Misfit
-sign_role b l = bracket_role b
+sign_role b l = bracket_role role.Kept b
 
 -- a dash, which is the sign of an offset or goes on with a range: with none behind places, before a month
 abbrev pub dash_role : Behind → Last → List Item → Role
-dash_role b last.Bracket later = if begins is_month later then role.Misfit else bracket_role b
+dash_role b last.Bracket later = if begins is_month later then role.Misfit else bracket_role role.Kept b
 dash_role b l later = sign_role b l
 
 -- a year can begin here: the first one of a rule, or one behind a comma
@@ -132,8 +137,8 @@ colon_role b = role.Kept
 abbrev pub token_role : Behind → Last → TokenKind → List Item → Role
 token_role b l kind.Comma later = comma_role b l later
 token_role b l kind.Semicolon later = role.Begins link.Instead
-token_role b l (kind.Weekday d) later = weekday_role b l
-token_role b l kind.OpenBracket later = bracket_role b
+token_role b l (kind.Weekday d) later = weekday_role b l later
+token_role b l kind.OpenBracket later = bracket_role (role.Weekdays (places later)) b
 token_role b l kind.Plus later = sign_role b l
 token_role b l kind.Dash later = dash_role b l later
 token_role b l (kind.Number v d) later = number_role b l d

@@ -1,5 +1,6 @@
 -- The rules of a text, each with its own text of plain hours, its holidays, and what else is said of it.
-use Rattle.std.specs.Prelude.{◌≡◌, ⊤, length, ℕ, Bool, true, false, List}
+use Rattle.std.specs.List.{prefix_len}
+use Rattle.std.specs.Prelude.{◌≡◌, ⊤, length, not, replicate, ℕ, suc, Bool, true, false, List}
 use Rattle.std.specs.Prelude.{[], ◌∷◌, ◌++◌, Option, Some, None, codes, map, if◌then◌else◌}
 use Rattle.gtd_hours.specs.declared.hours.Link.{Link}
 use Rattle.gtd_hours.specs.declared.hours.Link.TheVariants as link
@@ -21,6 +22,7 @@ pub record Said : Type 0 where
   pub is_led : Bool
   pub holidays : List Listed
   pub places : List ℕ
+  pub order : List Bool
   pub dates : List Selector
   pub easter : List EasterDays
   pub easter_places : List ℕ
@@ -36,6 +38,7 @@ said_by rule = record {
   is_led = rule.is_led;
   holidays = rule.holidays.items;
   places = rule.places.items;
+  order = rule.order.items;
   dates = rule.dates.items;
   easter = rule.easter.items;
   easter_places = rule.easter_places.items;
@@ -53,6 +56,7 @@ begun link = record {
   is_led = false;
   holidays = [];
   places = [];
+  order = [];
   dates = [];
   easter = [];
   easter_places = [];
@@ -65,8 +69,16 @@ begun link = record {
 abbrev pub with_text : Said → List ℕ → Said
 with_text rule bytes = record rule { text = rule.text ++ bytes }
 
+-- so many of its own weekday selectors more
+abbrev pub with_weekdays : Said → List ℕ → ℕ → Said
+with_weekdays rule bytes count = record (with_text rule bytes) { order = rule.order ++ replicate count false }
+
 abbrev pub with_holiday : Said → Listed → ℕ → Said
-with_holiday rule h place = record rule { holidays = rule.holidays ++ h ∷ []; places = rule.places ++ place ∷ [] }
+with_holiday rule h place = record rule {
+  holidays = rule.holidays ++ h ∷ [];
+  places = rule.places ++ place ∷ [];
+  order = rule.order ++ true ∷ [];
+}
 
 abbrev pub with_date : Said → Selector → Said
 with_date rule days = record rule { dates = rule.dates ++ days ∷ [] }
@@ -98,10 +110,11 @@ with_every rule bytes place = record (with_text rule bytes) {
   every_place = or_place rule.every_place place;
 }
 
--- An item with this role goes on with a rule: its bytes and a space (32), its holiday, its range of days that moves, its days of
--- Easter, or the place where it makes the rule unknown or remarks on it.
+-- An item with this role goes on with a rule: its bytes and a space (32) and how many weekday selectors begin there, its holiday,
+-- its range of days that moves, its days of Easter, or the place where it makes the rule unknown or remarks on it.
 abbrev pub with_item : List ℕ → Said → Role → Item → Said
 with_item text rule role.Kept item = with_text rule (stretch text item.from item.to ++ 32 ∷ [])
+with_item text rule (role.Weekdays count) item = with_weekdays rule (stretch text item.from item.to ++ 32 ∷ []) count
 with_item text rule role.Year item = with_year rule (stretch text item.from item.to ++ 32 ∷ [])
 with_item text rule (role.Every place) item = with_every rule (every_text text item place ++ 32 ∷ []) place
 with_item text rule (role.Leading h) item = with_leading rule h item.from
@@ -146,11 +159,22 @@ rules_from text rule (part ∷ parts) =
 abbrev pub rules_of : List ℕ → List Part → List Said
 rules_of text parts = rules_from text (begun link.Instead) parts
 
--- each of the rules has a place for each of its holidays, and of its days of Easter
+-- how many holidays an order has
+abbrev pub holidays_in : List Bool → ℕ
+holidays_in [] = 0
+holidays_in (true ∷ order) = suc (holidays_in order)
+holidays_in (false ∷ order) = holidays_in order
+
+-- Each of the rules has a place for each of its holidays, and of its days of Easter; its order has as many holidays as it.
 abbrev pub HavePlaces : List Said → Type 0
 HavePlaces [] = ⊤
 HavePlaces (rule ∷ rules) =
-    (length rule.places ≡ length rule.holidays) × (length rule.easter_places ≡ length rule.easter) × HavePlaces rules
+    (length rule.places ≡ length rule.holidays) × (length rule.easter_places ≡ length rule.easter)
+    × (holidays_in rule.order ≡ length rule.holidays) × HavePlaces rules
+
+-- how many of a rule's own weekday selectors stand before the first holiday of its order
+abbrev pub before_holiday : List Bool → ℕ
+before_holiday order = prefix_len not order
 
 -- ---- as the code has come so far
 

@@ -19,6 +19,6 @@ mod whole_days;
 pub use gtd_hours_items::NoHolidayText;
 pub use parts::{Part, parts_of};
 pub use role::Role;
-pub use rules::{HolidayRule, link_behind, rules_of};
+pub use rules::{HolidayRule, before_holiday, link_behind, rules_of};
 pub use text::{HolidayText, holiday_text};
 pub use told::{HolidayFault, Instead, Told, told_fault};

@@ -10,6 +10,8 @@ pub enum Role {
     Kept,
     /// A year in a list of years: it is in both.
     Year,
+    /// So many weekday selectors of the rule's own begin with it: it is in both.
+    Weekdays(usize),
     /// Years without a last one, of which there are more than a domain holds: in the text of the rule they go on to 2799, and
     /// their step is 9 in the checked text.
     Every {

@@ -1,7 +1,7 @@
 //! What becomes of an item, by what stands behind and before it.
 
 ghost use Rattle.std.specs.Prelude.{◌≡◌};
-ghost use Rattle.gtd_hours_holiday_rules.specs.Roles.{bracket_role, colon_role, comma_role, comment_role, dash_role};
+ghost use Rattle.gtd_hours_holiday_rules.specs.Roles.{begun_role, bracket_role, colon_role, comma_role, comment_role, dash_role};
 ghost use Rattle.gtd_hours_holiday_rules.specs.Roles.{dates_comma, dates_go_on, days_comma, easter_role, every_role, first_role};
 ghost use Rattle.gtd_hours_holiday_rules.specs.Roles.{holiday_role, joined_role, kept_if, number_role, remark_role, role_in};
 ghost use Rattle.gtd_hours_holiday_rules.specs.Roles.{role_of, separates, sign_role, takes_year, token_role, weekday_role};
@@ -11,8 +11,8 @@ use crate::role::Role;
 use gtd_hours::Link;
 use gtd_hours_days::{EasterDays, Listed};
 use gtd_hours_items::{
-    Item, What, begins_date, begins_dates, begins_holiday, begins_month, begins_month_days,
-    begins_number, begins_time, begins_weekday, begins_year, leads,
+    Item, What, begins_bracket, begins_date, begins_dates, begins_holiday, begins_month,
+    begins_month_days, begins_number, begins_time, begins_weekday, begins_year, leads, places,
 };
 use gtd_hours_tokens::TokenKind;
 
@@ -125,32 +125,46 @@ fn comma_role(behind: Behind, last: Last, later: &[Item]) -> Role
         Behind::Moving { beside } => dates_comma(beside, last, later),
         Behind::Weeks => kept_if(begins_number(later)),
         Behind::Times => kept_if(begins_time(later)),
-        Behind::Places { .. } => Role::Kept,
+        Behind::Places { .. } => Role::Weekdays(places(later)),
         _ => Role::Begins(Link::Also),
     }
 }
 
-// A weekday: directly behind a holiday in a list with weekdays it is read in two ways.
-fn weekday_role(behind: Behind, last: Last) -> Role
-    ensures { result ≡ weekday_role behind last }
+// A weekday that does not end a range: one selector, or one for each of its places in brackets.
+fn begun_role(later: &[Item]) -> Role
+    ensures { result ≡ begun_role later.now }
 {
-    match behind {
-        Behind::Mixed => match last {
-            Last::Comma => Role::Kept,
-            _ => Role::Doubtful,
-        },
-        _ => Role::Kept,
+    if begins_bracket(later) {
+        Role::Kept
+    } else {
+        Role::Weekdays(1)
     }
 }
 
-// A bracket: holidays have none.
-fn bracket_role(behind: Behind) -> Role
-    ensures { result ≡ bracket_role behind }
+// A weekday: directly behind a holiday in a list with weekdays it is read in two ways.
+fn weekday_role(behind: Behind, last: Last, later: &[Item]) -> Role
+    ensures { result ≡ weekday_role behind last later.now }
+{
+    match behind {
+        Behind::Mixed => match last {
+            Last::Comma => begun_role(later),
+            _ => Role::Doubtful,
+        },
+        _ => match last {
+            Last::Dash => Role::Kept,
+            _ => begun_role(later),
+        },
+    }
+}
+
+// A sign or a bracket, which becomes this where no holidays stand: these have none.
+fn bracket_role(role: Role, behind: Behind) -> Role
+    ensures { result ≡ bracket_role role behind }
 {
     match behind {
         Behind::Holidays => Role::Misfit,
         Behind::Mixed => Role::Misfit,
-        _ => Role::Kept,
+        _ => role,
     }
 }
 
@@ -161,7 +175,7 @@ fn sign_role(behind: Behind, last: Last) -> Role
     match last {
         Last::Dates => Role::Misfit,
         Last::Easter => Role::Misfit,
-        _ => bracket_role(behind),
+        _ => bracket_role(Role::Kept, behind),
     }
 }
 
@@ -174,7 +188,7 @@ fn dash_role(behind: Behind, last: Last, later: &[Item]) -> Role
             if begins_month(later) {
                 Role::Misfit
             } else {
-                bracket_role(behind)
+                bracket_role(Role::Kept, behind)
             }
         }
         _ => sign_role(behind, last),
@@ -255,8 +269,8 @@ fn token_role(behind: Behind, last: Last, kind: TokenKind, later: &[Item]) -> Ro
     match kind {
         TokenKind::Comma => comma_role(behind, last, later),
         TokenKind::Semicolon => Role::Begins(Link::Instead),
-        TokenKind::Weekday(_) => weekday_role(behind, last),
-        TokenKind::OpenBracket => bracket_role(behind),
+        TokenKind::Weekday(_) => weekday_role(behind, last, later),
+        TokenKind::OpenBracket => bracket_role(Role::Weekdays(places(later)), behind),
         TokenKind::Plus => sign_role(behind, last),
         TokenKind::Dash => dash_role(behind, last, later),
         TokenKind::Number { digits, .. } => number_role(behind, last, digits),

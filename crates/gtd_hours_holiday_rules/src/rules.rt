@@ -1,9 +1,9 @@
 //! The rules of a text, each with its own text of plain hours, its holidays, and what else is said of it.
 
-ghost use Rattle.std.specs.Prelude.{◌≡◌, ◌++◌, ◌∷◌, [], List, IfOk, OnOk, map};
-ghost use Rattle.gtd_hours_holiday_rules.specs.Rules.{all_rules, begun, ended, every_text, link_behind, or_place, rules_of};
-ghost use Rattle.gtd_hours_holiday_rules.specs.Rules.{said_by, with_date, with_easter, with_every, with_holiday, with_item};
-ghost use Rattle.gtd_hours_holiday_rules.specs.Rules.{with_text, with_year};
+ghost use Rattle.std.specs.Prelude.{◌≡◌, ◌++◌, ◌∷◌, [], List, IfOk, OnOk, false, map, replicate};
+ghost use Rattle.gtd_hours_holiday_rules.specs.Rules.{all_rules, before_holiday, begun, ended, every_text, link_behind, or_place};
+ghost use Rattle.gtd_hours_holiday_rules.specs.Rules.{rules_of, said_by, with_date, with_easter, with_every, with_holiday};
+ghost use Rattle.gtd_hours_holiday_rules.specs.Rules.{with_item, with_text, with_weekdays, with_year};
 ghost use Rattle.gtd_hours_holiday_rules.specs.declared.parts.Part.{Part};
 
 use crate::parts::Part;
@@ -29,6 +29,9 @@ pub struct HolidayRule {
     pub holidays: Vec<Listed>,
     /// Where each of them begins in the whole text.
     pub places: Vec<usize>,
+    /// Of each of its holidays and of the weekday selectors of its text, from left to right, whether it is a holiday. Each place
+    /// of a weekday in the month is a selector: `We[2,-1],PH` has two before its holiday.
+    pub order: Vec<bool>,
     /// Its ranges of days that move, from left to right: they are beside the month days of its text.
     pub dates: Vec<Selector>,
     /// Its days of Easter, from left to right: they are month days, too.
@@ -64,6 +67,7 @@ fn begun(alloc: Global, link: Link) -> HolidayRule
         is_led: false,
         holidays: Vec::new(alloc),
         places: Vec::new(alloc),
+        order: Vec::new(alloc),
         dates: Vec::new(alloc),
         easter: Vec::new(alloc),
         easter_places: Vec::new(alloc),
@@ -79,6 +83,24 @@ fn push_text(rule: &mut HolidayRule, bytes: &[u8]) -> Result<(), AllocError>
 {
     rule.text.extend_from_slice(bytes)?;
     rule.text.push(b' ')?;
+    Ok(())
+}
+
+// So many weekday selectors of the rule's own stand next.
+fn push_own(order: &mut Vec<bool>, count: usize) -> Result<(), AllocError>
+    ensures { OnOk result (order.new.items ≡ order.old.items ++ replicate count false) }
+{
+    for _ in 0..count {
+        order.push(false)?;
+    }
+    Ok(())
+}
+
+fn push_weekdays(rule: &mut HolidayRule, bytes: &[u8], count: usize) -> Result<(), AllocError>
+    ensures { OnOk result (said_by rule.new ≡ with_weekdays (said_by rule.old) (bytes.now ++ 32 ∷ []) count) }
+{
+    push_text(rule, bytes)?;
+    push_own(&mut rule.order, count)?;
     Ok(())
 }
 
@@ -134,6 +156,7 @@ fn push_holiday(rule: &mut HolidayRule, holiday: Listed, place: usize) -> Result
 {
     rule.holidays.push(holiday)?;
     rule.places.push(place)?;
+    rule.order.push(true)?;
     Ok(())
 }
 
@@ -158,6 +181,7 @@ fn push_item(rule: &mut HolidayRule, text: &[u8], role: Role, item: Item) -> Res
 {
     match role {
         Role::Kept => push_text(rule, stretch(text, item.from, item.to)),
+        Role::Weekdays(count) => push_weekdays(rule, stretch(text, item.from, item.to), count),
         Role::Year => push_year(rule, stretch(text, item.from, item.to)),
         Role::Every { place } => push_every(rule, text, item, place),
         Role::Leading(holiday) => {
@@ -240,4 +264,20 @@ pub fn rules_of(alloc: Global, text: &[u8], parts: &[Part]) -> Result<Vec<Holida
     }
     begin(&mut cut, alloc, Link::Instead)?;
     Ok(cut.ended)
+}
+
+/// How many of a rule's own weekday selectors stand before the first holiday of its order.
+pub fn before_holiday(order: &[bool]) -> usize
+    ensures count { result ≡ before_holiday order.now }
+{
+    let mut count = 0;
+    let mut rest = order;
+    while let Some((is_holiday, later)) = rest.split_first() {
+        if *is_holiday {
+            return count;
+        }
+        count += 1;
+        rest = later;
+    }
+    count
 }

@@ -1,9 +1,9 @@
 //! The items to come.
 
 ghost use Rattle.std.specs.Prelude.{◌≡◌, false};
-ghost use Rattle.gtd_hours_items.specs.Coming.{begins, begins_date, begins_month_days, is_comma, is_dates};
-ghost use Rattle.gtd_hours_items.specs.Coming.{is_holiday, is_month, is_number, is_slash, is_time, is_weekday};
-ghost use Rattle.gtd_hours_items.specs.Coming.{is_year, leads};
+ghost use Rattle.gtd_hours_items.specs.Coming.{begins, begins_date, begins_month_days, is_bracket, is_comma, is_dash};
+ghost use Rattle.gtd_hours_items.specs.Coming.{is_dates, is_digit, is_holiday, is_month, is_number, is_slash, is_time};
+ghost use Rattle.gtd_hours_items.specs.Coming.{is_weekday, is_year, leads, places, places_in, value_of};
 
 use crate::items::{Item, What};
 use gtd_hours_tokens::TokenKind;
@@ -65,6 +65,24 @@ fn is_slash(what: What) -> bool
     }
 }
 
+fn is_dash(what: What) -> bool
+    ensures { result ≡ is_dash what }
+{
+    match what {
+        What::Token(TokenKind::Dash) => true,
+        _ => false,
+    }
+}
+
+fn is_bracket(what: What) -> bool
+    ensures { result ≡ is_bracket what }
+{
+    match what {
+        What::Token(TokenKind::OpenBracket) => true,
+        _ => false,
+    }
+}
+
 fn is_time(what: What) -> bool
     ensures { result ≡ is_time what }
 {
@@ -82,6 +100,26 @@ fn is_number(what: What) -> bool
         What::Token(TokenKind::Number { .. }) => true,
         What::Every { .. } => true,
         _ => false,
+    }
+}
+
+// A number of one digit.
+fn is_digit(what: What) -> bool
+    ensures { result ≡ is_digit what }
+{
+    match what {
+        What::Token(TokenKind::Number { digits, .. }) => digits == 1,
+        _ => false,
+    }
+}
+
+// What a number stands for.
+fn value_of(what: What) -> u16
+    ensures { result ≡ value_of what }
+{
+    match what {
+        What::Token(TokenKind::Number { value, .. }) => value,
+        _ => 0,
     }
 }
 
@@ -103,6 +141,16 @@ pub fn begins_weekday(items: &[Item]) -> bool
     match items.first() {
         None => false,
         Some(item) => is_weekday(item.what),
+    }
+}
+
+/// Whether it is the bracket before places of a weekday in the month.
+pub fn begins_bracket(items: &[Item]) -> bool
+    ensures answer { result ≡ begins is_bracket items.now }
+{
+    match items.first() {
+        None => false,
+        Some(item) => is_bracket(item.what),
     }
 }
 
@@ -220,4 +268,25 @@ pub fn leads(items: &[Item]) -> bool
         rest = later;
     }
     false
+}
+
+// How many places a range of them has, or that any other place is one.
+fn places_in(first: What, sign: What, last: What) -> usize
+    ensures { result ≡ places_in first sign last }
+{
+    if is_digit(first) && is_dash(sign) && is_digit(last) {
+        (usize::from(value_of(last)) + 1).saturating_sub(usize::from(value_of(first)))
+    } else {
+        1
+    }
+}
+
+/// How many places of a weekday in the month stand there, up to a comma or the end of the brackets.
+pub fn places(items: &[Item]) -> usize
+    ensures count { result ≡ places items.now }
+{
+    match items {
+        [first, sign, last, ..] => places_in(first.what, sign.what, last.what),
+        _ => 1,
+    }
 }

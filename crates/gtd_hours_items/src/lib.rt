@@ -15,8 +15,8 @@ mod stop;
 mod tokens;
 
 pub use coming::{
-    begins_date, begins_dates, begins_holiday, begins_month, begins_month_days, begins_number,
-    begins_time, begins_weekday, begins_year, is_weekday, leads,
+    begins_bracket, begins_date, begins_dates, begins_holiday, begins_month, begins_month_days,
+    begins_number, begins_time, begins_weekday, begins_year, is_weekday, leads, places,
 };
 pub use items::{Item, What, items_of};
 pub use stop::NoHolidayText;

@@ -51,16 +51,17 @@ beside true weekdays e = absurd cc
 beside false true e = (refl, refl)
 beside false false e = absurd cc
 
-by_restriction : (b : Bool) (known : Known) (listed : List Listed) (led : Bool) (days : List Selector) (rule made : List Kind)
-    → b ≡ restricts led rule → selectors made ≡ with_days led days (selectors rule)
+by_restriction : (b : Bool) (known : Known) (listed : List Listed) (led : Bool) (order : List Bool) (days : List Selector)
+    (rule made : List Kind) → b ≡ restricts led rule → selectors made ≡ with_days led order days (selectors rule)
     → ((n : ℤ) (f : DayFields) → SomeHolds days n f ↔ IsHoliday known listed n) → (n : ℤ)
     → Matches made n ↔ MatchesBy b (IsHoliday known listed n) rule n
-by_restriction true known listed led days rule made e are is n =
-    own_matches (IsHoliday known listed) led days rule made (restricting led (has_weekdays (selectors rule)) (sym e)) are is n
-by_restriction false known listed led days rule made e are is n =
+by_restriction true known listed led order days rule made e are is n =
+    own_matches (IsHoliday known listed) led order days rule made (restricting led (has_weekdays (selectors rule)) (sym e)) are
+    is n
+by_restriction false known listed led order days rule made e are is n =
     let both = beside led (has_weekdays (selectors rule)) (sym e) in
-    beside_matches (IsHoliday known listed) days rule made both.1
-    (are ∙ ap (λ (b : Bool). with_days b days (selectors rule)) both.0) is n
+    beside_matches (IsHoliday known listed) order days rule made both.1
+    (are ∙ ap (λ (b : Bool). with_days b order days (selectors rule)) both.0) is n
 
 both_iff : (A B C : Type 0) → (A ↔ B) → (B ↔ C) → A ↔ C
 both_iff A B C p q = ((λ a. q.0 (p.0 a)), (λ c. p.1 (q.1 c)))
@@ -78,9 +79,10 @@ Made known listed led by rule made =
     ((n : ℤ) → Matches made.kinds.items n ↔ MatchesWith known led listed rule.kinds.items n)
     × (made.times ≡ rule.times) × (made.modifier ≡ rule.modifier) × (made.link ≡ by)
 
-made_with : (known : Known) (listed : List Listed) (led : Bool) (by : Link) (days : List Selector) (rule made : Rule)
-    → AreGivenDays known listed days → WithAny listed led by days rule made → Made known listed led by rule made
-made_with known [] led by days rule made given is = (
+made_with : (known : Known) (listed : List Listed) (led : Bool) (order : List Bool) (by : Link) (days : List Selector)
+    (rule made : Rule) → AreGivenDays known listed days → WithAny listed led order by days rule made
+    → Made known listed led by rule made
+made_with known [] led order by days rule made given is = (
   (λ n.
       let same = ap (λ (r : Rule). r.kinds) is in
       ((λ h. subst (λ (k : _). Matches k.items n) same h), (λ h. subst (λ (k : _). Matches k.items n) (sym same) h))),
@@ -88,8 +90,8 @@ made_with known [] led by days rule made given is = (
   ap (λ (r : Rule). r.modifier) is,
   ap (λ (r : Rule). r.link) is,
 )
-made_with known (h ∷ listed) led by days rule made given is = (
-  (λ n. by_restriction (restricts led rule.kinds.items) known (h ∷ listed) led days rule.kinds.items made.kinds.items refl
+made_with known (h ∷ listed) led order by days rule made given is = (
+  (λ n. by_restriction (restricts led rule.kinds.items) known (h ∷ listed) led order days rule.kinds.items made.kinds.items refl
       is.kinds (λ m f. both_iff _ _ _ (given.3.1 m f) (holiday_given known given.0 given.1 (h ∷ listed) m given.2)) n),
   is.times,
   is.modifier,
@@ -99,7 +101,7 @@ made_with known (h ∷ listed) led by days rule made given is = (
 pub made_of : (known : Known) (from : HolidayRule) (days : List Selector) (rule made : Rule)
     → AreGivenDays known from.holidays.items days → HasHolidays from days rule made → IsMadeOf known from rule made
 made_of known from days rule made given is =
-    let all = made_with known from.holidays.items from.is_led from.link days rule made given is in record {
+    let all = made_with known from.holidays.items from.is_led from.order.items from.link days rule made given is in record {
       days = all.0;
       times = all.1;
       modifier = all.2;

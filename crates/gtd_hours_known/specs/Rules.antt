@@ -80,13 +80,13 @@ AreAllSaid known (h ∷ holidays) =
 -- ---- rules with holidays
 
 -- A rule with another link and, if there are holidays, with their days.
-abbrev pub WithAny : List Listed → Bool → Link → List Selector → Rule → Rule → Type 0
-WithAny [] led by days plain made = made ≡ record plain { link = by }
-WithAny (x ∷ xs) led by days plain made = IsWithDays by led days plain made
+abbrev pub WithAny : List Listed → Bool → List Bool → Link → List Selector → Rule → Rule → Type 0
+WithAny [] led order by days plain made = made ≡ record plain { link = by }
+WithAny (x ∷ xs) led order by days plain made = IsWithDays by led order days plain made
 
 -- It has the link of the text's rule, and its holidays.
 abbrev pub HasHolidays : HolidayRule → List Selector → Rule → Rule → Type 0
-HasHolidays from days plain made = WithAny from.holidays.items from.is_led from.link days plain made
+HasHolidays from days plain made = WithAny from.holidays.items from.is_led from.order.items from.link days plain made
 
 -- each of the rules, in their order, has them
 abbrev pub AreWithHolidays : HolidayRule → List Selector → List Rule → List Rule → Type 0

@@ -34,16 +34,16 @@ ghost use Rattle.gtd_hours_known.specs.declared.known.KnownHours.{KnownHours};
 /// one selector must hold, and of the weekdays or the holidays.
 pub fn days_of_holidays()
     ensures led { (table : Holidays) (years : KnownYears) (listed : List Listed) (days : List Selector) (by : Link)
-        (rule made : Rule) → AreDaysOf table years listed days → IsWithDays by true days rule made
+        (order : List Bool) (rule made : Rule) → AreDaysOf table years listed days → IsWithDays by true order days rule made
         → (n : ℤ) → Matches made.kinds.items n ↔ (Matches rule.kinds.items n × SomeListed table.rows.items years listed n) }
     ensures alone { (table : Holidays) (years : KnownYears) (listed : List Listed) (days : List Selector) (by : Link)
-        (is_led : Bool) (rule made : Rule) → has_weekdays (selectors rule.kinds.items) ≡ false
-        → AreDaysOf table years listed days → IsWithDays by is_led days rule made
+        (is_led : Bool) (order : List Bool) (rule made : Rule) → has_weekdays (selectors rule.kinds.items) ≡ false
+        → AreDaysOf table years listed days → IsWithDays by is_led order days rule made
         → (n : ℤ) → Matches made.kinds.items n ↔ (Matches rule.kinds.items n × SomeListed table.rows.items years listed n) }
     ensures joined { (table : Holidays) (years : KnownYears) (listed : List Listed) (days : List Selector) (by : Link)
-        (rule made : Rule) (others : List Kind) (weekdays : Kind) → rule.kinds.items ≡ others ++ weekdays ∷ []
+        (order : List Bool) (rule made : Rule) (others : List Kind) (weekdays : Kind) → rule.kinds.items ≡ others ++ weekdays ∷ []
         → names_weekdays weekdays.selectors.items ≡ true → AreDaysOf table years listed days
-        → IsWithDays by false days rule made
+        → IsWithDays by false order days rule made
         → (n : ℤ) → Matches made.kinds.items n ↔ ((f : DayFields) × AreFieldsOf n f × EachHolds others n f
         × (SomeHolds weekdays.selectors.items n f ⊎ SomeListed table.rows.items years listed n)) }
 {}

@@ -60,7 +60,7 @@ fn rule_with(
             ..plain
         });
     }
-    with_days(alloc, plain, from.link, from.is_led, days)
+    with_days(alloc, plain, from, days)
 }
 
 // Rules with the link and the holidays of a rule of the text.

@@ -1,7 +1,8 @@
 -- How holidays and days of Easter are written.
-use Rattle.std.specs.Prelude.{ℕ, ◌++◌, List, [], ◌∷◌, codes, unsigned_abs}
+use Rattle.std.specs.Prelude.{ℕ, ◌++◌, Bool, false, List, [], ◌∷◌, codes, drop, take, unsigned_abs}
 use Rattle.std.specs.Int.{is_negative}
-use Rattle.gtd_hours.specs.Written.{end_text, offset_text}
+use Rattle.gtd_hours.specs.Written.{end_text, kind_text, offset_text}
+use Rattle.gtd_hours.specs.declared.hours.Selector.{Selector}
 use Rattle.gtd_hours_days.specs.declared.easter_range.EasterRange.{EasterRange}
 use Rattle.gtd_hours_days.specs.declared.listed.EasterDays.{EasterDays}
 use Rattle.gtd_hours_days.specs.declared.listed.EasterDays.TheVariants as easter
@@ -10,6 +11,7 @@ use Rattle.gtd_hours_days.specs.declared.listed.Listed.TheVariants as listed_day
 use Rattle.gtd_hours_days.specs.declared.offset.Offset.{Offset}
 use Rattle.gtd_hours_days.specs.declared.yearly_day.YearlyDay.{YearlyDay}
 use Rattle.gtd_hours_days.specs.declared.yearly_day.YearlyDay.TheVariants as yearly
+use Rattle.gtd_hours_holiday_rules.specs.Rules.{before_holiday}
 use Rattle.gtd_hours_mended.specs.Joining.{listed}
 
 -- ` +1 day`, ` -2 days`; nothing for no days
@@ -45,3 +47,11 @@ with_easter text (x ∷ xs) = with_easter (listed text (easter_text x)) xs
 abbrev pub with_holidays : List ℕ → List Listed → List ℕ
 with_holidays text [] = text
 with_holidays text (x ∷ xs) = with_holidays (listed text (holiday_text x)) xs
+
+-- A list with these weekdays and holidays behind it, in this order: each holiday behind the weekdays that stand before it, and
+-- the weekdays behind the last one.
+abbrev pub with_days : List ℕ → List Bool → List Selector → List Listed → List ℕ
+with_days text order weekdays [] = listed text (kind_text false weekdays)
+with_days text order weekdays (x ∷ xs) =
+    with_days (listed (listed text (kind_text false (take (before_holiday order) weekdays))) (holiday_text x))
+    (drop 1 (drop (before_holiday order) order)) (drop (before_holiday order) weekdays) xs

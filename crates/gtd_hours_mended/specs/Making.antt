@@ -33,6 +33,7 @@ pub record IsMade (comment : List ℕ) (from : HolidayRule) (left : List TimeFor
   pub led : rule.is_led ≡ from.is_led
   pub unknown : rule.is_unknown ≡ is_some from.unknown
   pub holidays : rule.holidays.items ≡ from.holidays.items
+  pub order : rule.order.items ≡ from.order.items
   pub every : rule.every.items ≡ from.every.items
   pub dates : rule.dates.items ≡ from.dates.items
   pub easter : rule.easter.items ≡ from.easter.items

@@ -10,7 +10,7 @@ use Rattle.gtd_hours.specs.declared.hours.TimeRange.{TimeRange}
 use Rattle.gtd_hours_days.specs.declared.listed.EasterDays.{EasterDays}
 use Rattle.gtd_hours_days.specs.declared.listed.Listed.{Listed}
 use Rattle.gtd_hours_moments.specs.declared.moment.TimeForm.{TimeForm}
-use Rattle.gtd_hours_mended.specs.Days.{with_easter, with_holidays}
+use Rattle.gtd_hours_mended.specs.Days.{with_days, with_easter, with_holidays}
 use Rattle.gtd_hours_mended.specs.Joining.{is_nothing, spaced}
 use Rattle.gtd_hours_mended.specs.Selecting.{selectors_of}
 use Rattle.gtd_hours_mended.specs.Times.{with_forms}
@@ -49,16 +49,16 @@ month_days_text rule =
 abbrev pub weeks_text : MendedRule → List ℕ
 weeks_text rule = kind_text false (selectors_of class.Weeks (kinds_of rule))
 
-abbrev pub weekdays_text : MendedRule → List ℕ
-weekdays_text rule = kind_text false (selectors_of class.Weekdays (kinds_of rule))
+abbrev pub weekdays_of : MendedRule → List Selector
+weekdays_of rule = selectors_of class.Weekdays (kinds_of rule)
 
--- its weekdays and holidays: holidays that lead stand before the weekdays, and others behind them in one list
-abbrev pub days_by : Bool → List ℕ → List Listed → List ℕ
-days_by true weekdays holidays = spaced (with_holidays [] holidays) weekdays
-days_by false weekdays holidays = with_holidays weekdays holidays
+-- its weekdays and holidays: holidays that lead stand before the weekdays, and others among them in one list
+abbrev pub days_by : Bool → List Bool → List Selector → List Listed → List ℕ
+days_by true order weekdays holidays = spaced (with_holidays [] holidays) (kind_text false weekdays)
+days_by false order weekdays holidays = with_days [] order weekdays holidays
 
 abbrev pub days_text : MendedRule → List ℕ
-days_text rule = days_by rule.is_led (weekdays_text rule) rule.holidays.items
+days_text rule = days_by rule.is_led rule.order.items (weekdays_of rule) rule.holidays.items
 
 -- all selectors behind those of years
 abbrev pub behind_years : MendedRule → List ℕ

@@ -3,12 +3,15 @@
 ghost use Rattle.std.specs.Prelude.{◌≡◌, ◌++◌, ◌∷◌, [], false, IfOk, OnOk};
 ghost use Rattle.gtd_hours.specs.Written.{end_text, kind_text, offset_text};
 ghost use Rattle.gtd_hours_mended.specs.Days.{days_text, easter_day_text, easter_range_text, easter_text, holiday_text};
-ghost use Rattle.gtd_hours_mended.specs.Days.{with_easter, with_holidays, yearly_text};
+ghost use Rattle.gtd_hours_mended.specs.Days.{with_days, with_easter, with_holidays, yearly_text};
+ghost use Rattle.gtd_hours_mended.specs.Joining.{listed};
 
+use crate::copies::{behind, first_of};
 use crate::joining::push_joined;
 use crate::selectors::text_of;
 use gtd_hours::{Dates, End, Months, Selector};
 use gtd_hours_days::{EasterDays, EasterRange, Listed, Offset, YearlyDay};
+use gtd_hours_holiday_rules::before_holiday;
 use itoa::Buffer;
 use std::alloc::{AllocError, Global};
 
@@ -139,6 +142,14 @@ pub(crate) fn push_easter_list(
     Ok(())
 }
 
+// Puts a holiday behind a list.
+fn push_one(alloc: Global, out: &mut Vec<u8>, holiday: Listed) -> Result<(), AllocError>
+    ensures { OnOk result (out.new.items ≡ listed out.old.items (holiday_text holiday)) }
+{
+    let text = holiday_text(alloc, holiday)?;
+    push_joined(out, b',', text.as_slice())
+}
+
 /// Puts holidays behind a list.
 pub(crate) fn push_holidays(
     alloc: Global,
@@ -149,9 +160,40 @@ pub(crate) fn push_holidays(
 {
     let mut rest = holidays;
     while let Some((holiday, more)) = rest.split_first() {
-        let text = holiday_text(alloc, *holiday)?;
-        push_joined(out, b',', text.as_slice())?;
+        push_one(alloc, out, *holiday)?;
         rest = more;
     }
     Ok(())
+}
+
+// Puts weekdays behind a list.
+fn push_weekdays(alloc: Global, out: &mut Vec<u8>, weekdays: &[Selector]) -> Result<(), AllocError>
+    ensures { OnOk result (out.new.items ≡ listed out.old.items (kind_text false weekdays.now)) }
+{
+    let text = text_of(alloc, weekdays)?;
+    push_joined(out, b',', text.as_slice())
+}
+
+/// Puts weekdays and holidays behind a list, in this order.
+pub(crate) fn push_in_order(
+    alloc: Global,
+    out: &mut Vec<u8>,
+    order: &[bool],
+    weekdays: &[Selector],
+    holidays: &[Listed],
+) -> Result<(), AllocError>
+    ensures { OnOk result (out.new.items ≡ with_days out.old.items order.now weekdays.now holidays.now) }
+{
+    let mut order = order;
+    let mut weekdays = weekdays;
+    let mut rest = holidays;
+    while let Some((holiday, more)) = rest.split_first() {
+        let place = before_holiday(order);
+        push_weekdays(alloc, out, first_of(weekdays, place))?;
+        push_one(alloc, out, *holiday)?;
+        weekdays = behind(weekdays, place);
+        order = behind(behind(order, place), 1);
+        rest = more;
+    }
+    push_weekdays(alloc, out, weekdays)
 }

@@ -1,13 +1,13 @@
 //! The rules of a text, each with the hours of its own text, its times and its comment.
 
-ghost use Rattle.std.specs.Prelude.{◌≡◌, ◌++◌, ◌∷◌, [], IfErr, IfOk, OnOk, drop, take};
+ghost use Rattle.std.specs.Prelude.{◌≡◌, ◌++◌, ◌∷◌, [], IfErr, IfOk, OnOk, drop};
 ghost use Rattle.gtd_hours_grammar.specs.Faults.{IsFirstFault};
 ghost use Rattle.gtd_hours_mended.specs.Making.{AreMade, IsMade, IsMakeStop, IsOwnStop, comment_in, first_comment};
 ghost use Rattle.gtd_hours_mended.specs.Making.{times_in};
 ghost use Rattle.gtd_hours_text.specs.Standing.{StandsFor};
 
 use crate::comments::{Stretch, no_comment};
-use crate::copies::copy_of;
+use crate::copies::{behind, copy_of, first_of};
 use crate::rule::MendedRule;
 use crate::rules::first_times;
 use gtd_hours::Hours;
@@ -57,28 +57,6 @@ fn more_comments(comments: &[Stretch]) -> &[Stretch]
     }
 }
 
-// So many forms from the first on.
-fn first_forms(forms: &[TimeForm], count: usize) -> &[TimeForm]
-    ensures { result.now ≡ take count forms.now }
-{
-    if count < forms.len() {
-        &forms[..count]
-    } else {
-        forms
-    }
-}
-
-// The forms behind so many.
-fn more_forms(forms: &[TimeForm], count: usize) -> &[TimeForm]
-    ensures { result.now ≡ drop count forms.now }
-{
-    if count < forms.len() {
-        &forms[count..]
-    } else {
-        &forms[forms.len()..]
-    }
-}
-
 // How many times the rule of hours has.
 fn times_in(own: &Hours) -> usize
     ensures { result ≡ times_in own.now }
@@ -109,11 +87,12 @@ fn rule_with(
     requires { StandsFor from.now.text.items own }
     ensures { IfOk result (λ rule. IsMade comment.now from.now forms.now rule) }
 {
-    let own_forms = copy_of(alloc, first_forms(forms, times_in(&own)))?;
+    let own_forms = copy_of(alloc, first_of(forms, times_in(&own)))?;
     let every = copy_of(alloc, from.every.as_slice())?;
     let dates = copy_of(alloc, from.dates.as_slice())?;
     let easter = copy_of(alloc, from.easter.as_slice())?;
     let holidays = copy_of(alloc, from.holidays.as_slice())?;
+    let order = copy_of(alloc, from.order.as_slice())?;
     let comment = copy_of(alloc, comment)?;
     Ok(MendedRule {
         link: from.link,
@@ -122,6 +101,7 @@ fn rule_with(
         dates,
         easter,
         holidays,
+        order,
         is_led: from.is_led,
         forms: own_forms,
         is_unknown: from.unknown.is_some(),
@@ -177,7 +157,7 @@ pub(crate) fn made_rules(
     let mut rest = found;
     while let Some((from, more)) = rest.split_first() {
         let rule = made_rule(alloc, text, from, first_comment(comments), forms)?;
-        forms = more_forms(forms, times_in(&rule.own));
+        forms = behind(forms, times_in(&rule.own));
         comments = more_comments(comments);
         push_rule(&mut made, rule)?;
         rest = more;

@@ -19,6 +19,8 @@ pub struct MendedRule {
     pub easter: Vec<EasterDays>,
     /// Its holidays.
     pub holidays: Vec<Listed>,
+    /// Of each of its holidays and of the weekday selectors of its own text, from left to right, whether it is a holiday.
+    pub order: Vec<bool>,
     /// Whether its holidays lead.
     pub is_led: bool,
     /// Its forms of times.

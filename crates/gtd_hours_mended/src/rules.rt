@@ -1,24 +1,25 @@
 //! Rules, as they are written.
 
-ghost use Rattle.std.specs.Prelude.{◌≡◌, ◌++◌, IfOk, OnOk, codes, not};
+ghost use Rattle.std.specs.Prelude.{◌≡◌, ◌++◌, [], IfOk, OnOk, codes, false, not, true};
 ghost use Rattle.gtd_hours.specs.Written.{is_also, link_text};
 ghost use Rattle.gtd_hours_mended.specs.Joining.{is_nothing, spaced};
-ghost use Rattle.gtd_hours_mended.specs.Rules.{behind_years, closes, days_text, first_closes, first_kinds, first_times};
-ghost use Rattle.gtd_hours_mended.specs.Rules.{goes_into, has_days, has_times, is_open, kinds_of, month_days_text};
+ghost use Rattle.gtd_hours_mended.specs.Rules.{behind_years, closes, days_by, days_text, first_closes, first_kinds};
+ghost use Rattle.gtd_hours_mended.specs.Rules.{first_times, goes_into, has_days, has_times, is_open, kinds_of, month_days_text};
 ghost use Rattle.gtd_hours_mended.specs.Rules.{more_rules_text, needs_word, or_always, rule_text, rules_text, says_open};
-ghost use Rattle.gtd_hours_mended.specs.Rules.{selectors_text, spans_text, weekdays_text, weeks_text, with_years, word_text};
+ghost use Rattle.gtd_hours_mended.specs.Rules.{selectors_text, spans_text, weeks_text, with_years, word_text};
 ghost use Rattle.gtd_hours_mended.specs.Selecting.{selectors_of};
 ghost use Rattle.gtd_hours_mended.specs.Times.{with_forms};
 ghost use Rattle.gtd_hours_mended.specs.declared.classes.Class.TheVariants as class;
 
 use crate::classes::{Class, selectors_of};
-use crate::days::{push_easter_list, push_holidays};
+use crate::days::{push_easter_list, push_holidays, push_in_order};
 use crate::joining::push_joined;
 use crate::rule::MendedRule;
 use crate::selectors::text_of;
 use crate::times::push_forms;
 use crate::years::years_text;
 use gtd_hours::{Kind, Link, Modifier, Rule, Selector, TimeRange};
+use gtd_hours_days::Listed;
 use std::alloc::{AllocError, Global};
 
 // ---- the rule of a rule's own text
@@ -86,26 +87,45 @@ fn weeks_text(alloc: Global, rule: &MendedRule) -> Result<Vec<u8>, AllocError>
     text_of(alloc, selectors.as_slice())
 }
 
-fn weekdays_text(alloc: Global, rule: &MendedRule) -> Result<Vec<u8>, AllocError>
-    ensures { IfOk result (λ text. text.items ≡ weekdays_text rule.now) }
+// The holidays of a rule, and its weekdays, which they lead.
+fn led_text(
+    alloc: Global,
+    holidays: &[Listed],
+    weekdays: &[Selector],
+) -> Result<Vec<u8>, AllocError>
+    ensures { IfOk result (λ text. text.items ≡ days_by true [] weekdays.now holidays.now) }
 {
-    let selectors = selectors_of(alloc, Class::Weekdays, kinds_of(rule))?;
-    text_of(alloc, selectors.as_slice())
+    let mut text = Vec::new(alloc);
+    push_holidays(alloc, &mut text, holidays)?;
+    let days = text_of(alloc, weekdays)?;
+    push_joined(&mut text, b' ', days.as_slice())?;
+    Ok(text)
+}
+
+// The weekdays of a rule, and its holidays among them.
+fn mixed_text(
+    alloc: Global,
+    order: &[bool],
+    weekdays: &[Selector],
+    holidays: &[Listed],
+) -> Result<Vec<u8>, AllocError>
+    ensures { IfOk result (λ text. text.items ≡ days_by false order.now weekdays.now holidays.now) }
+{
+    let mut text = Vec::new(alloc);
+    push_in_order(alloc, &mut text, order, weekdays, holidays)?;
+    Ok(text)
 }
 
 // The weekdays and holidays of a rule.
 fn days_text(alloc: Global, rule: &MendedRule) -> Result<Vec<u8>, AllocError>
     ensures { IfOk result (λ text. text.items ≡ days_text rule.now) }
 {
-    let mut weekdays = weekdays_text(alloc, rule)?;
+    let weekdays = selectors_of(alloc, Class::Weekdays, kinds_of(rule))?;
+    let holidays = rule.holidays.as_slice();
     if rule.is_led {
-        let mut text = Vec::new(alloc);
-        push_holidays(alloc, &mut text, rule.holidays.as_slice())?;
-        push_joined(&mut text, b' ', weekdays.as_slice())?;
-        return Ok(text);
+        return led_text(alloc, holidays, weekdays.as_slice());
     }
-    push_holidays(alloc, &mut weekdays, rule.holidays.as_slice())?;
-    Ok(weekdays)
+    mixed_text(alloc, rule.order.as_slice(), weekdays.as_slice(), holidays)
 }
 
 // The selectors of a rule behind those of years.

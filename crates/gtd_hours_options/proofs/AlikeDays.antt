@@ -29,25 +29,25 @@ of_lists : (kinds : List Kind) → kinds_cost kinds ≡ lists_cost (selectors ki
 of_lists [] = refl
 of_lists (kind ∷ kinds) = ap (λ (n : ℕ). max 1 (selectors_cost kind.selectors.items) + n) (of_lists kinds)
 
-with_cost : (led : Bool) (ds es : List Selector) (kinds : List (List Selector)) → ds ≡ es
-    → lists_cost (with_days led ds kinds) ≡ lists_cost (with_days led es kinds)
-with_cost led ds es kinds e = ap (λ (l : List Selector). lists_cost (with_days led l kinds)) e
+with_cost : (led : Bool) (order : List Bool) (ds es : List Selector) (kinds : List (List Selector)) → ds ≡ es
+    → lists_cost (with_days led order ds kinds) ≡ lists_cost (with_days led order es kinds)
+with_cost led order ds es kinds e = ap (λ (l : List Selector). lists_cost (with_days led order l kinds)) e
 
 kinds_by : (one other : List Kind) → lists_cost (selectors one) ≡ lists_cost (selectors other)
     → days_cost one ≡ days_cost other
 kinds_by one other e = ap (max 1) (of_lists one ∙ e ∙ sym (of_lists other))
 
-any_cost : (listed : List Listed) (led : Bool) (by : Link) (ds es : List Selector) (a b m n : Rule)
-    → ds ≡ es → selectors a.kinds.items ≡ selectors b.kinds.items
-    → WithAny listed led by ds a m → WithAny listed led by es b n → days_cost m.kinds.items ≡ days_cost n.kinds.items
-any_cost [] led by ds es a b m n e same p q =
+any_cost : (listed : List Listed) (led : Bool) (order : List Bool) (by : Link) (ds es : List Selector) (a b m n : Rule)
+    → ds ≡ es → selectors a.kinds.items ≡ selectors b.kinds.items → WithAny listed led order by ds a m
+    → WithAny listed led order by es b n → days_cost m.kinds.items ≡ days_cost n.kinds.items
+any_cost [] led order by ds es a b m n e same p q =
     kinds_by m.kinds.items n.kinds.items
     (ap (λ (r : Rule). lists_cost (selectors r.kinds.items)) p ∙ ap lists_cost same
     ∙ sym (ap (λ (r : Rule). lists_cost (selectors r.kinds.items)) q))
-any_cost (h ∷ listed) led by ds es a b m n e same p q =
+any_cost (h ∷ listed) led order by ds es a b m n e same p q =
     kinds_by m.kinds.items n.kinds.items
-    (ap lists_cost p.kinds ∙ ap (λ (l : List (List Selector)). lists_cost (with_days led ds l)) same
-    ∙ with_cost led ds es (selectors b.kinds.items) e ∙ sym (ap lists_cost q.kinds))
+    (ap lists_cost p.kinds ∙ ap (λ (l : List (List Selector)). lists_cost (with_days led order ds l)) same
+    ∙ with_cost led order ds es (selectors b.kinds.items) e ∙ sym (ap lists_cost q.kinds))
 
 -- ---- one rule
 
@@ -65,7 +65,7 @@ made_alike known x ds es a b m n given also same p q =
           (same_spans known x b n s other);
       match = λ s. both_ways _ _ _ _ (same_match known x a m s one) (match_of_same known x a b s same)
           (same_match known x b n s other);
-      cost = any_cost x.holidays.items x.is_led x.link ds es a b m n
+      cost = any_cost x.holidays.items x.is_led x.order.items x.link ds es a b m n
           (one_list known x.holidays.items ds es given also) same.kinds p q;
       times = ap (λ (t : _). t.items) one.times ∙ same.times ∙ sym (ap (λ (t : _). t.items) other.times);
       modifier = one.modifier ∙ same.modifier ∙ sym other.modifier;

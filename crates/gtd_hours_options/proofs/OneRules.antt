@@ -100,7 +100,7 @@ days_of known x y days s given = subst (λ (t : Said). AreGivenDays known t.holi
 has_of : (x y : HolidayRule) (days : List Selector) (plain made : Rule) → said_by x ≡ said_by y
     → HasHolidays y days plain made → HasHolidays x days plain made
 has_of x y days plain made s has =
-    subst (λ (t : Said). WithAny t.holidays t.is_led t.link days plain made) (sym s) has
+    subst (λ (t : Said). WithAny t.holidays t.is_led t.order t.link days plain made) (sym s) has
 
 with_alike : (known : Known) (x y : HolidayRule) (ds es : List Selector) (ps qs ms ns : List Rule) → said_by x ≡ said_by y
     → AreGivenDays known x.holidays.items ds → AreGivenDays known x.holidays.items es → SameRules ps qs

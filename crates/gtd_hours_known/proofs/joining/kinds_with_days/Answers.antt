@@ -9,12 +9,13 @@ use Rattle.gtd_hours_known.proofs.joining.kinds_with_days.Goals as goal
 
 pub returns-in-Some : goal.returns-in-Some
 returns-in-Some c =
-    let led = c.args.is_led in
+    let led = c.args.from.now.is_led in
+    let order = c.args.from.now.order.items in
     let days = c.args.days.now in
     let front = selectors c.pop.new.self.items in
     let last = c.in-Some.last in
-    let e : with_days led days (selectors c.args.kinds.items) ≡ front ++ last_with led days last.selectors.items =
-    ap (λ (l : List (List Selector)). with_days led days l)
+    let e : with_days led order days (selectors c.args.kinds.items) ≡ front ++ last_with led order days last.selectors.items =
+    ap (λ (l : List (List Selector)). with_days led order days l)
     (ap selectors c.in-Some.ensures.items ∙ kind_more c.pop.new.self.items last)
-    ∙ days_last led days front last.selectors.items in
+    ∙ days_last led order days front last.selectors.items in
     rw e c.with_last.ensures

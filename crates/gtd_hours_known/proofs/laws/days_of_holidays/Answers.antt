@@ -5,15 +5,16 @@ use Rattle.gtd_hours_known.proofs.MatchFacts.{joined_matches, own_matches}
 use Rattle.gtd_hours_known.proofs.laws.days_of_holidays.Goals as goal
 
 pub returns-clause-led : goal.returns-clause-led
-returns-clause-led c = λ table years listed days by rule made are is.
-    own_matches (SomeListed table.rows.items years listed) true days rule.kinds.items made.kinds.items (inl refl) is.kinds are.1
-
-pub returns-clause-alone : goal.returns-clause-alone
-returns-clause-alone c = λ table years listed days by is_led rule made none are is.
-    own_matches (SomeListed table.rows.items years listed) is_led days rule.kinds.items made.kinds.items (inr none) is.kinds
+returns-clause-led c = λ table years listed days by order rule made are is.
+    own_matches (SomeListed table.rows.items years listed) true order days rule.kinds.items made.kinds.items (inl refl) is.kinds
     are.1
 
-pub returns-clause-joined : goal.returns-clause-joined
-returns-clause-joined c = λ table years listed days by rule made others weekdays split named are is.
-    joined_matches (SomeListed table.rows.items years listed) days rule.kinds.items made.kinds.items others weekdays split named
+pub returns-clause-alone : goal.returns-clause-alone
+returns-clause-alone c = λ table years listed days by is_led order rule made none are is.
+    own_matches (SomeListed table.rows.items years listed) is_led order days rule.kinds.items made.kinds.items (inr none)
     is.kinds are.1
+
+pub returns-clause-joined : goal.returns-clause-joined
+returns-clause-joined c = λ table years listed days by order rule made others weekdays split named are is.
+    joined_matches (SomeListed table.rows.items years listed) order days rule.kinds.items made.kinds.items others weekdays split
+    named is.kinds are.1

@@ -12,14 +12,14 @@ loop-from-preserved c =
     let rule = c.in_ok-rule.rule in
     let left = c.loop-from.comments.now in
     let forms = c.loop-from.forms.now in
-    let later = c.more_forms-forms.ensures ∙ ap (λ (n : ℕ). drop n forms) c.times_in.ensures in
+    let later = c.behind-forms.ensures ∙ ap (λ (n : ℕ). drop n forms) c.times_in.ensures in
     let is = subst (λ (s : Stretch). IsMade (comment_in text s) c.in-Some.from.now forms rule) c.first_comment.ensures
     c.in_ok-rule.ensures.made in
     let joined = more_joined text c.args.found.now c.loop-from.rest.now c.in-Some.more.now c.in-Some.from.now c.args.comments.now
-    left c.more_comments-comments.result.now c.args.forms.now forms c.more_forms-forms.result.now c.loop-from.made.items rule
+    left c.more_comments-comments.result.now c.args.forms.now forms c.behind-forms.result.now c.loop-from.made.items rule
     c.in-Some.ensures.cases.0 c.more_comments-comments.ensures later is c.loop-from.invariant in
     subst (λ (made : List MendedRule). AreJoined text c.args.found.now c.args.comments.now c.args.forms.now c.in-Some.more.now
-    c.more_comments-comments.result.now c.more_forms-forms.result.now made) (sym c.in_ok-push_rule.ensures) joined
+    c.more_comments-comments.result.now c.behind-forms.result.now made) (sym c.in_ok-push_rule.ensures) joined
 
 pub returns-clause-made : goal.returns-clause-made
 returns-clause-made c =
