@@ -15,8 +15,10 @@ use crate::dates::{date_days, month_days};
 use crate::moving::{moved_days, moving_days};
 use crate::yearly::{SoFar, with_yearly};
 use gtd_core::{Expr, Op, StartParts};
-use gtd_hours::{Kind, Selector, WeekdayPlace, Weekdays};
-use gtd_hours_leaves::{Clock, NO_PARTS, each_day, join, or_nothing, unite, week_days, year_days};
+use gtd_hours::{Kind, Selector, WeekdayPlace, Weekdays, Years};
+use gtd_hours_leaves::{
+    Clock, NO_PARTS, each_day, join, or_nothing, unite, unite_years, week_days, year_days,
+};
 use std::alloc::{AllocError, Global};
 
 fn has_weekday(days: Weekdays, weekday: u8) -> bool
@@ -141,6 +143,22 @@ fn with_other(
     })
 }
 
+// What there is so far, with years, which lie in one sum with it.
+fn with_years(alloc: Global, so_far: SoFar, years: Years, clock: Clock) -> Result<SoFar, AllocError>
+    requires none { so_far.each ≡ None }
+    ensures days { IfOk result (λ then. (s : ℤ) → InMaybe then.union s
+        ↔ (InMaybe so_far.union s ⊎ HoldsAt (selector.Years years) (moved_day (minutes_of clock) s))) }
+    ensures leaves { IfOk result
+        (λ then. maybe_leaves then.union ≡ maybe_leaves so_far.union + selector_cost (selector.Years years)) }
+    ensures none { IfOk result (λ then. then.each ≡ None) }
+{
+    let union = unite_years(alloc, so_far.union, years, clock)?;
+    Ok(SoFar {
+        union: Some(union),
+        each: None,
+    })
+}
+
 // What there is so far, with the days of a selector, before these.
 fn with_selector(
     alloc: Global,
@@ -159,6 +177,7 @@ fn with_selector(
 {
     match selector {
         Selector::Yearly(days) => with_yearly(alloc, so_far, days, more, clock),
+        Selector::Years(years) => with_years(alloc, so_far, years, clock),
         _ => with_other(alloc, so_far, selector, clock),
     }
 }

@@ -16,6 +16,8 @@ pub enum Before {
     Years,
     /// A month: a number behind it is a day of it.
     Month,
+    /// An opening bracket, or a number or a sign behind it: a number is a place of a weekday.
+    Places,
     /// The dash of a range, with or without a number behind it: the range goes on.
     Dash,
     /// Something else.
@@ -28,6 +30,7 @@ fn before_dash(before: Before) -> Before
     match before {
         Before::Year => Before::Years,
         Before::Years => Before::Years,
+        Before::Places => Before::Places,
         _ => Before::Dash,
     }
 }
@@ -38,6 +41,7 @@ fn before_number(before: Before, digits: u8) -> Before
     match before {
         Before::Dash => Before::Dash,
         Before::Month => Before::Other,
+        Before::Places => Before::Places,
         Before::Other => {
             if digits == 4 {
                 Before::Year
@@ -55,6 +59,7 @@ fn before_sign(before: Before) -> Before
     match before {
         Before::Year => Before::Years,
         Before::Years => Before::Years,
+        Before::Places => Before::Places,
         _ => Before::Other,
     }
 }
@@ -70,6 +75,7 @@ fn before_token(before: Before, kind: TokenKind) -> Before
         TokenKind::Plus => before_sign(before),
         TokenKind::Week => Before::Years,
         TokenKind::Month(_) => Before::Month,
+        TokenKind::OpenBracket => Before::Places,
         _ => Before::Other,
     }
 }
@@ -95,7 +101,7 @@ fn may_begin(before: Before, kind: TokenKind) -> bool
             TokenKind::Unsupported => true,
             _ => false,
         },
-        Before::Month => match kind {
+        Before::Month | Before::Places => match kind {
             TokenKind::Number { .. } => false,
             _ => true,
         },

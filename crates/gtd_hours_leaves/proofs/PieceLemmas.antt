@@ -1,8 +1,8 @@
 -- Every so many numbers, in pieces.
 use Rattle.std.proofs.Common.{◌≡◌, ◌↔◌, ◌⊎◌, ℕ, ◌+◌, ◌-◌, ◌*◌, ◌/◌, ◌%◌, ◌<◌, ◌≤◌, min, inl, inr, arith}
 use Rattle.std.proofs.lemmas.Bool.{cases_lt}
-use Rattle.std.proofs.lemmas.Nat.{div-mul-add, le-div, mod-mul-add}
-use Rattle.std.proofs.Math.Nat.{div-mul-le_self, mod-add-div'}
+use Rattle.std.proofs.lemmas.Nat.{div-add-mod', div-mul-add, le-div, mod-mul-add}
+use Rattle.std.proofs.Math.Nat.{div-mul-le_self, mod-add-div', mod-lt}
 
 -- a number is in a piece if its place has the piece's quotient and a low rest
 piece-to : (x m w p : ℕ) → w ≤ m → p * m ≤ x → x < p * m + w → (x / m ≡ p) × (x % m < w)
@@ -81,3 +81,40 @@ along e b p q same all = (
   (λ h. elim (all.0 h) [ inl x ↦ inl x | inr x ↦ inr (same.0 x) ]),
   (λ h. all.1 (elim h [ inl x ↦ inl x | inr x ↦ inr (same.1 x) ])),
 )
+
+-- What holds so far or has a number that is left is all: so it is with one more run, which has the next of these numbers.
+pub one_more-run : (e so run all : Type 0) (P : ℕ → Type 0) (begin end next last : ℕ) → begin ≤ next → next ≤ last → next ≡ end + 1
+    → (run ↔ ((k : ℕ) × (begin ≤ k) × (k ≤ end) × P k)) → (e ↔ (so ⊎ run))
+    → ((so ⊎ ((k : ℕ) × (begin ≤ k) × (k ≤ last) × P k)) ↔ all) → (e ⊎ ((k : ℕ) × (next ≤ k) × (k ≤ last) × P k)) ↔ all
+one_more-run e so run all P begin end next last later within is own both before = (
+  (λ h. before.0 (elim h [
+    | inl x ↦ elim (both.0 x) [
+      | inl y ↦ inl y
+      | inr y ↦ let k = own.0 y in inr (k.0, k.1, omega (arith, k.2), k.3)
+    ]
+    | inr k ↦ inr (k.0, omega (arith, k.1), k.2, k.3)
+  ])),
+  (λ h. elim (before.1 h) [
+    | inl y ↦ inl (both.1 (inl y))
+    | inr k ↦ elim (cases_lt k.0 next) [
+      | inl lt ↦ inl (both.1 (inr (own.1 (k.0, k.1, omega (arith, lt), k.3))))
+      | inr ge ↦ inr (k.0, omega (arith, ge), k.2, k.3)
+    ]
+  ]),
+)
+
+-- a hundred years more are one run more
+pub later-run : (left : ℕ) → (left + 100) / 100 ≡ left / 100 + 1
+later-run left =
+    let whole = div-add-mod' left 100 in
+    let e : left + 100 ≡ (left / 100 + 1) * 100 + left % 100 = omega (arith, whole) in
+    rw e (div-mul-add (left / 100 + 1) 100 (left % 100) (mod-lt left (omega arith)))
+
+-- so many runs are left after one of a hundred years
+pub runs-left : (begin last before more all : ℕ) → begin + 100 ≤ last → more ≡ before + 1
+    → before + ((last - begin) / 100 + 1) ≡ all → more + ((last - (begin + 100)) / 100 + 1) ≡ all
+runs-left begin last before more all within is count =
+    let e : last - begin ≡ (last - (begin + 100)) + 100 = omega (arith, within) in
+    let one = later-run (last - (begin + 100)) in
+    let told : before + (((last - (begin + 100)) + 100) / 100 + 1) ≡ all = rw e at count in
+    omega (arith, is, one, told)

@@ -8,7 +8,7 @@ pub use leaves::{
     NO_DURATION, NO_PARTS, clock_at, copied, each_clock, each_day, each_days, join, leaf, nothing,
     or_nothing, unite,
 };
-pub use numbers::{MOST_YEARS, week_days, year_days, year_run};
+pub use numbers::{MOST_YEARS, unite_years, week_days, year_days, year_run};
 
 mod clock;
 mod leaves;

@@ -2,6 +2,7 @@
 
 ghost use Rattle.std.specs.Prelude.{◌≡◌, ◌↔◌, ◌⊎◌, ◌+◌, ◌-◌, ◌*◌, ◌<◌, ◌≤◌, ◌/◌, ◌%◌, min, ℕ, ℤ, IfOk};
 ghost use Rattle.gtd_core.specs.Trees.{leaf_count, tree_of};
+ghost use Rattle.gtd_eval.specs.Membership.{InTree};
 ghost use Rattle.gtd_hours.specs.Cost.{steps_cost, weeks_cost, years_cost};
 ghost use Rattle.gtd_hours_leaves.specs.Leaves.{AreDays, HasNumber, HasNumberWithin, HoldsAt, InMaybe, IsRun};
 ghost use Rattle.gtd_hours_leaves.specs.Leaves.{maybe_leaves, minutes_of, moved_day};
@@ -117,23 +118,48 @@ fn pieces(
     Ok(or_nothing(so_far))
 }
 
-/// The days of the years.
-pub fn year_days(alloc: Global, years: Years, clock: Clock) -> Result<Expr, AllocError>
-    ensures days { IfOk result (AreDays (minutes_of clock) (HoldsAt (selector.Years years))) }
-    ensures leaves { IfOk result (λ e. leaf_count (tree_of e) ≡ years_cost years.first years.last years.step) }
+// What there is so far, and the days of the years from one to another: a run for each hundred of them, each put behind what there
+// was before it.
+fn unite_runs(
+    alloc: Global,
+    so_far: Option<Expr>,
+    first: u16,
+    last: u16,
+    clock: Clock,
+) -> Result<Expr, AllocError>
+    requires order { first ≤ last }
+    requires small { last ≤ 9999 }
+    ensures days { IfOk result (λ e. (s : ℤ) → InTree (tree_of e) s
+        ↔ (InMaybe so_far s ⊎ HasNumberWithin Level.Year first last (moved_day (minutes_of clock) s))) }
+    ensures leaves { IfOk result (λ e. leaf_count (tree_of e) ≡ maybe_leaves so_far + steps_cost first last 100) }
+{
+    let mut union = so_far;
+    let mut begin = first;
+    while last - begin >= MOST_YEARS {
+        let expr = unite(alloc, union, year_run(begin, begin + MOST_YEARS - 1, clock))?;
+        union = Some(expr);
+        begin += MOST_YEARS;
+    }
+    unite(alloc, union, year_run(begin, last, clock))
+}
+
+/// What there is so far, and the days of the years. Years without a step lie in one sum with what there is; others in a sum of
+/// their own.
+pub fn unite_years(
+    alloc: Global,
+    so_far: Option<Expr>,
+    years: Years,
+    clock: Clock,
+) -> Result<Expr, AllocError>
+    ensures days { IfOk result (λ e. (s : ℤ) → InTree (tree_of e) s
+        ↔ (InMaybe so_far s ⊎ HoldsAt (selector.Years years) (moved_day (minutes_of clock) s))) }
+    ensures leaves { IfOk result
+        (λ e. leaf_count (tree_of e) ≡ maybe_leaves so_far + years_cost years.first years.last years.step) }
 {
     if years.step == 1 {
-        return pieces(
-            alloc,
-            Level::Year,
-            years.first,
-            years.last,
-            MOST_YEARS,
-            MOST_YEARS,
-            clock,
-        );
+        return unite_runs(alloc, so_far, years.first, years.last, clock);
     }
-    pieces(
+    let days = pieces(
         alloc,
         Level::Year,
         years.first,
@@ -141,7 +167,16 @@ pub fn year_days(alloc: Global, years: Years, clock: Clock) -> Result<Expr, Allo
         years.step,
         1,
         clock,
-    )
+    )?;
+    unite(alloc, so_far, days)
+}
+
+/// The days of the years.
+pub fn year_days(alloc: Global, years: Years, clock: Clock) -> Result<Expr, AllocError>
+    ensures days { IfOk result (AreDays (minutes_of clock) (HoldsAt (selector.Years years))) }
+    ensures leaves { IfOk result (λ e. leaf_count (tree_of e) ≡ years_cost years.first years.last years.step) }
+{
+    unite_years(alloc, None, years, clock)
 }
 
 // The days of weeks one after another. Not each year has a week 53, so it is a stretch by itself.
