@@ -9,6 +9,7 @@ mod comments;
 mod copies;
 mod days;
 mod joining;
+pub mod laws;
 mod making;
 mod mender;
 mod rule;

@@ -1,0 +1,26 @@
+//! Laws of the definitions: calls that do nothing, whose contracts are what is proved.
+
+ghost use Rattle.std.specs.Prelude.{◌≡◌, List, ℕ};
+ghost use Rattle.gtd_hours_loose_tokens.specs.declared.token.DayNames.{DayNames};
+ghost use Rattle.gtd_hours_mended.specs.Mending.{IsMendStop, IsMendedText};
+ghost use Rattle.gtd_hours_options.specs.declared.fault.OptionsFault.{OptionsFault};
+ghost use Rattle.gtd_hours_options.specs.declared.fault.OptionsReadFault.TheVariants as reading;
+
+use gtd_hours_loose::laws::one_reading as one_loose_reading;
+use gtd_hours_moments::laws::{one_moment_text, one_reading as one_list_of_times};
+use gtd_hours_options::laws::one_way;
+use gtd_hours_text::laws::one_meaning;
+
+/// A text has one mended text at most, and then no fault.
+pub fn one_mended_text()
+    ensures mended { (names : DayNames) (text one other : List ℕ) → IsMendedText names text one → IsMendedText names text other
+        → one ≡ other }
+    ensures apart { (names : DayNames) (text mended : List ℕ) (bad : OptionsFault) → IsMendedText names text mended
+        → IsMendStop names text (reading.Fault bad) → ⊥ }
+{
+    one_meaning();
+    one_loose_reading();
+    one_list_of_times();
+    one_moment_text();
+    one_way();
+}
