@@ -1,8 +1,8 @@
 #!/usr/bin/env python3
 """What a line of a schedule takes in a native program: put by itself, or in blocks of 64.
 
-`lines.py` needs rustc and valgrind. It builds `lines.rs`, sees that each way writes the same bytes, and prints a table of Markdown:
-of each way the instructions of a line, with the span that it shows, counted by callgrind."""
+`lines.py` needs rustc and valgrind. It builds `lines.rs`, sees that each way writes the same bytes, and prints a table of
+Markdown: of each way the instructions of a line, with the span that it shows, counted by callgrind."""
 import filecmp
 import os
 import sys
