@@ -22,10 +22,9 @@ def jobs(gtd, gtdesk, made):
     """Each job's name, its command, and the file that it reads."""
     large, small = made(65_536), made(2_000)
     return [
-        ("`gtd schedule`, 65,536 rows, 91 days", [gtd, "schedule", large, FIRST, "2024-03-31", VEHICLE], large),
-        ("`gtd schedule`, 65,536 rows, a day", [gtd, "schedule", large, FIRST, FIRST, VEHICLE], large),
-        ("`gtd schedule`, 2,000 rows, ten years", [gtd, "schedule", small, FIRST, "2033-12-31", VEHICLE], small),
-        ("`gtd year`, 65,536 rows", [gtd, "year", large, "2024", VEHICLE], large),
+        ("`gtd schedule`, 65,536 rows, 91 days", [gtd, "schedule", large, FIRST, "2024-04-01", VEHICLE], large),
+        ("`gtd schedule`, 65,536 rows, a day", [gtd, "schedule", large, FIRST, "2024-01-02", VEHICLE], large),
+        ("`gtd schedule`, 2,000 rows, ten years", [gtd, "schedule", small, FIRST, "2034-01-01", VEHICLE], small),
         ("`gtd migrate`, 65,536 rows", [gtd, "migrate", large], large),
         ("`gtdesk faults`, 65,536 rows", [gtdesk, "faults", large], large),
         ("`gtdesk now`, 65,536 rows", [gtdesk, "now", large, MOMENT, VEHICLE], large),
@@ -48,7 +47,7 @@ def measure(name, command, records, work):
         times.append(writing(command, again))
     floor, own = min(floors), min(times)
     sizes = [f"{os.path.getsize(path):,}" for path in (records, printed)]
-    measuring.row([name, *sizes, f"{floor:.4f} s", f"{own:.3f} s", f"{own / floor:.0f}"])
+    measuring.row([name, *sizes, f"{floor:.3f} s", f"{own:.3f} s", f"{own / floor:.0f}"])
 
 
 def main():
