@@ -11,13 +11,14 @@ use Rattle.gtd_hours_grammar.specs.declared.fault.HoursFault.{HoursFault}
 use Rattle.gtd_hours_grammar.specs.facts.FirstFault.{hours_or_fault}
 use Rattle.gtd_hours_holiday_rules.specs.Rules.{Said, said_by}
 use Rattle.gtd_hours_holiday_rules.specs.declared.rules.HolidayRule.{HolidayRule}
+use Rattle.gtd_hours_known.specs.Rules.{IsRuleFault}
 use Rattle.gtd_hours_moments.specs.declared.moment.TimeForm.{TimeForm}
 use Rattle.gtd_hours_text.specs.Standing.{StandsFor}
 use Rattle.gtd_hours_text.specs.facts.OneMeaning.{same_rules}
 use Rattle.gtd_hours_text.specs.facts.SameRules.{SameRules}
 use Rattle.gtd_hours_mended.specs.Days.{with_easter}
 use Rattle.gtd_hours_mended.specs.Joining.{is_nothing, spaced}
-use Rattle.gtd_hours_mended.specs.Making.{AreMade, IsMade, IsOwnFault, comment_in, first_comment, times_in}
+use Rattle.gtd_hours_mended.specs.Making.{AreMade, IsMade, comment_in, first_comment, times_in}
 use Rattle.gtd_hours_mended.specs.Rules.{behind_years, closes, days_by, days_text, first_closes, first_kinds, first_times}
 use Rattle.gtd_hours_mended.specs.Rules.{goes_into, has_days, is_open, is_some_easter, is_some_form, is_some_holiday}
 use Rattle.gtd_hours_mended.specs.Rules.{is_some_selector, kinds_of, month_days_text, more_rules_text, needs_word, or_always}
@@ -287,7 +288,7 @@ all_alike text (x ∷ xs) (y ∷ ys) comments forms us vs e (a, more, at, is, le
 -- Of rules that are made, no own text has a fault.
 pub made_apart : (text : List ℕ) (xs ys : List HolidayRule) (comments : List Stretch) (forms : List TimeForm)
     (made : List MendedRule) (bad : HoursFault) → map said_by xs ≡ map said_by ys → AreMade text xs comments forms made
-    → IsOwnFault ys bad → ⊥
+    → IsRuleFault ys bad → ⊥
 made_apart text [] [] comments forms made bad e p q = q
 made_apart text [] (y ∷ ys) comments forms made bad e p q = absurd cc
 made_apart text (x ∷ xs) [] comments forms made bad e p q = q
@@ -295,4 +296,4 @@ made_apart text (x ∷ xs) (y ∷ ys) comments forms made bad e (a, more, at, is
     let same : x.text.items ≡ y.text.items = ap (λ (s : Said). s.text) (first_said x y xs ys e) in
     hours_or_fault x.text.items is.own.p bad is.own.is (subst (λ (t : List ℕ). IsFirstFault t bad) (sym same) q)
 made_apart text (x ∷ xs) (y ∷ ys) comments forms made bad e (a, more, at, is, left) (inr q) =
-    made_apart text xs ys (drop 1 comments) (drop (times_in a.own) forms) more bad (more_said x y xs ys e) left q
+    made_apart text xs ys (drop 1 comments) (drop (times_in a.own) forms) more bad (more_said x y xs ys e) left q.1

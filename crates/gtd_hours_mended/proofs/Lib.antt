@@ -2,6 +2,7 @@
 pub mod AlikeRules
 pub mod MakingFacts
 pub mod MendingFacts
+pub mod OneFault
 pub mod OneMended
 pub mod Quotes
 pub mod ReadKinds

@@ -3,8 +3,9 @@ use Rattle.std.proofs.Common.{◌≡◌, refl, sym, subst, inl, inr, arith, leng
 use Rattle.std.proofs.lemmas.List.{append-nil}
 use Rattle.gtd_hours_grammar.specs.declared.fault.HoursFault.{HoursFault}
 use Rattle.gtd_hours_holiday_rules.specs.declared.rules.HolidayRule.{HolidayRule}
+use Rattle.gtd_hours_known.specs.Rules.{IsRuleFault}
 use Rattle.gtd_hours_moments.specs.declared.moment.TimeForm.{TimeForm}
-use Rattle.gtd_hours_mended.specs.Making.{AreMade, IsMade, IsMakeStop, IsOwnFault, IsOwnStop, comment_in, first_comment, times_in}
+use Rattle.gtd_hours_mended.specs.Making.{AreMade, IsMade, IsMakeStop, IsOwnStop, comment_in, first_comment, times_in}
 use Rattle.gtd_hours_mended.specs.declared.comments.Stretch.{Stretch}
 use Rattle.gtd_hours_mended.specs.declared.making.MakeStop.{MakeStop}
 use Rattle.gtd_hours_mended.specs.declared.making.MakeStop.TheVariants as stop
@@ -15,7 +16,7 @@ pub record AreJoined (text : List ℕ) (all : List HolidayRule) (comments : List
     (rest : List HolidayRule) (comments_left : List Stretch) (forms_left : List TimeForm) (made : List MendedRule) : Type 0 where
   pub rules : (others : List MendedRule) → AreMade text rest comments_left forms_left others
       → AreMade text all comments forms (made ++ others)
-  pub fault : (bad : HoursFault) → IsOwnFault rest bad → IsOwnFault all bad
+  pub fault : (bad : HoursFault) → IsRuleFault rest bad → IsRuleFault all bad
 
 -- Of no rules that have come, all are left.
 pub none_joined : (text : List ℕ) (all : List HolidayRule) (comments : List Stretch) (forms : List TimeForm)
@@ -39,7 +40,8 @@ more_joined text all rest more from comments left later forms forms_left forms_l
         subst (λ (cs : List Stretch). AreMade text more cs (drop (times_in rule.own) forms_left) others) c
             (subst (λ (fs : List TimeForm). AreMade text more later fs others) f are),
       )));
-  fault = λ bad is. joined.fault bad (subst (λ (rs : List HolidayRule). IsOwnFault rs bad) (sym e) (inr is));
+  fault = λ bad worse. joined.fault bad
+      (subst (λ (rs : List HolidayRule). IsRuleFault rs bad) (sym e) (inr ((is.own.p, is.own.is), worse)));
 }
 
 -- All have come.
@@ -55,7 +57,7 @@ pub joined_stop : (text : List ℕ) (all rest more : List HolidayRule) (from : H
     (forms forms_left : List TimeForm) (made : List MendedRule) (why : MakeStop) → rest ≡ from ∷ more
     → AreJoined text all comments forms rest left forms_left made → IsOwnStop from why → IsMakeStop all why
 joined_stop text all rest more from comments left forms forms_left made (stop.Own bad) e joined is =
-    joined.fault bad (subst (λ (rs : List HolidayRule). IsOwnFault rs bad) (sym e) (inl is))
+    joined.fault bad (subst (λ (rs : List HolidayRule). IsRuleFault rs bad) (sym e) (inl is))
 joined_stop text all rest more from comments left forms forms_left made stop.NoMemory e joined is = tt
 
 -- The first and the others of no rules are none.

@@ -28,10 +28,8 @@ use Rattle.gtd_hours_known.specs.Reading.{KnownStandsFor}
 use Rattle.gtd_hours_known.specs.declared.known.Known.{Known}
 use Rattle.gtd_hours_known.specs.declared.known.KnownHours.{KnownHours}
 use Rattle.gtd_hours_holiday_rules.specs.declared.rules.HolidayRule.{HolidayRule}
-use Rattle.gtd_hours_loose.specs.Mending.{mended as mended_tokens, strict_text}
-use Rattle.gtd_hours_loose.specs.Pairs.{pair_fault}
 use Rattle.gtd_hours_loose.specs.Reading.{IsLooseReading, IsReadFault}
-use Rattle.gtd_hours_loose.specs.StrictForms.{IsLooseFault, IsStrictForm, text_tokens}
+use Rattle.gtd_hours_loose.specs.StrictForms.{IsStrictForm}
 use Rattle.gtd_hours_loose.specs.declared.manner.Manner.TheVariants as manner
 use Rattle.gtd_hours_loose.specs.declared.reader.LooseFault.{LooseFault}
 use Rattle.gtd_hours_loose.specs.declared.reader.LooseHours.{LooseHours}
@@ -41,6 +39,7 @@ use Rattle.gtd_hours_loose.proofs.OneReading as loose_reading
 use Rattle.gtd_hours_loose_tokens.specs.declared.token.DayNames.{DayNames}
 use Rattle.gtd_hours_loose_tokens.specs.declared.token.LooseToken.{LooseToken}
 use Rattle.gtd_hours_loose_tokens.specs.declared.token.TokenFault.{TokenFault}
+use Rattle.gtd_hours_options.proofs.OneWay.{no_form, same_form_text}
 use Rattle.gtd_hours_options.specs.Reading.{IsOptionsFault, StandsWith}
 use Rattle.gtd_hours_options.specs.Readings.{AreReadInOneWay, HowRead}
 use Rattle.gtd_hours_options.specs.declared.fault.OptionsFault.{OptionsFault}
@@ -58,11 +57,11 @@ use Rattle.gtd_hours_mended.proofs.SoundQuotes.{sound_whole}
 -- ---- the rules of a checked text
 
 -- a text has one list of tokens
-same_tokens : (text : List ℕ) (xs ys : List Token) → AreTokens text xs → AreTokens text ys → xs ≡ ys
+pub same_tokens : (text : List ℕ) (xs ys : List Token) → AreTokens text xs → AreTokens text ys → xs ≡ ys
 same_tokens text xs ys p q = one_list text 0 xs ys (length text) p q
 
 -- and one of items
-same_items : (text : List ℕ) (ts : List Token) (xs ys : List Item) → AreItems text ts xs → AreItems text ts ys → xs ≡ ys
+pub same_items : (text : List ℕ) (ts : List Token) (xs ys : List Item) → AreItems text ts xs → AreItems text ts ys → xs ≡ ys
 same_items text ts xs ys p q = one_items one_front text ts xs ys p q
 
 -- the rules of parts are written in one way
@@ -155,7 +154,7 @@ options_same a b p q =
     λ i. record { known = known i; clocks = clocks i }
 
 -- a fault without options is one with all that give nothing
-fault_with : (a b : Options) (text : List ℕ) (bad : OptionsFault) → GivesNothing a → GivesNothing b
+pub fault_with : (a b : Options) (text : List ℕ) (bad : OptionsFault) → GivesNothing a → GivesNothing b
     → IsOptionsFault a text bad → IsOptionsFault b text bad
 fault_with a b text bad p q f = subst (λ (o : Options). IsOptionsFault o text bad) (options_same a b p q) f
 
@@ -189,38 +188,6 @@ reads_so options text read (StandsWith.timed bad m f given r) = StandsWith.timed
   };
 })
 
--- ---- strict forms
-
--- a text has one list of loose tokens
-loose_tokens : (names : DayNames) (text : List ℕ) (xs ys : List LooseToken) → text_tokens names text ≡ Ok xs
-    → text_tokens names text ≡ Ok ys → xs ≡ ys
-loose_tokens names text xs ys p q = cc
-
--- a text has one strict form
-form_text : (names : DayNames) (text : List ℕ) (a b : StrictForm) → IsStrictForm names text a → IsStrictForm names text b
-    → a.text.items ≡ b.text.items
-form_text names text a b p q =
-    p.holds.text
-    ∙ ap (λ (ts : List LooseToken). strict_text (mended_tokens text ts))
-    (loose_tokens names text p.tokens q.tokens p.are q.are)
-    ∙ sym q.holds.text
-
--- and then no fault of its tokens
-ok_or_err : (names : DayNames) (text : List ℕ) (xs : List LooseToken) (bad : TokenFault) → text_tokens names text ≡ Ok xs
-    → text_tokens names text ≡ Err bad → ⊥
-ok_or_err names text xs bad p q = cc
-
--- nor two numbers that are years or times
-no_pair : (xs ys : List LooseToken) (place : ℕ) → xs ≡ ys → pair_fault xs ≡ None → pair_fault ys ≡ Some place → ⊥
-no_pair xs ys place same none some = cc
-
--- or a fault of its tokens
-no_form : (names : DayNames) (text : List ℕ) (form : StrictForm) (why : TokenFault) → IsStrictForm names text form
-    → IsLooseFault names text why → ⊥
-no_form names text form why p (IsLooseFault.token e) = ok_or_err names text p.tokens why p.are e
-no_form names text form why p (IsLooseFault.pair ys place e some is) =
-    no_pair p.tokens ys place (loose_tokens names text p.tokens ys p.are e) p.sure some
-
 -- ---- plain hours
 
 -- loosely written hours are written in one way
@@ -229,6 +196,19 @@ one_plain : ((text : List ℕ) (one other : Hours) → StandsFor text one → St
     → IsLooseReading names text other → hours_text one.hours ≡ hours_text other.hours
 one_plain written names text one other p q =
     loose_reading.one_reading (λ (a b : Hours). hours_text a ≡ hours_text b) written (manner.Loose names) text one other p q
+
+-- ---- texts that are not at fault
+
+module _ (one_way : (how : HowRead) → AreReadInOneWay how) where
+  -- a text is at fault or not
+  pub sound_apart : (text : List ℕ) (bad : OptionsFault) → IsSound text → IsFaulty text bad → ⊥
+  sound_apart text bad (IsSound.read options read nothing stands) f =
+      (one_way (record { manner = manner.Strict; options = options })).apart text (as_written read) bad
+      (reads_so options text read stands, refl) (fault_with f.options options text bad f.nothing nothing f.fault)
+  sound_apart text bad (IsSound.needs options other nothing fault need) f =
+      let same : bad ≡ other = (one_way (record { manner = manner.Strict; options = options })).fault text bad other
+      (fault_with f.options options text bad f.nothing nothing f.fault) fault in
+      false≢true (sym f.own ∙ ap is_need same ∙ need)
 
 -- ---- any text
 
@@ -243,16 +223,6 @@ module _ (written : (text : List ℕ) (one other : Hours) → StandsFor text one
     (one_forms : (text : List ℕ) (one other : MomentText) → IsMomentText text one → IsMomentText text other
     → one.forms.items ≡ other.forms.items)
     (one_way : (how : HowRead) → AreReadInOneWay how) where
-  -- a text is at fault or not
-  sound_apart : (text : List ℕ) (bad : OptionsFault) → IsSound text → IsFaulty text bad → ⊥
-  sound_apart text bad (IsSound.read options read nothing stands) f =
-      (one_way (record { manner = manner.Strict; options = options })).apart text (as_written read) bad
-      (reads_so options text read stands, refl) (fault_with f.options options text bad f.nothing nothing f.fault)
-  sound_apart text bad (IsSound.needs options other nothing fault need) f =
-      let same : bad ≡ other = (one_way (record { manner = manner.Strict; options = options })).fault text bad other
-      (fault_with f.options options text bad f.nothing nothing f.fault) fault in
-      false≢true (sym f.own ∙ ap is_need same ∙ need)
-
   -- as it is written it has one mended text
   one_written : (text one other : List ℕ) → IsMended text one → IsMended text other → one ≡ other
   one_written text one other p q =
@@ -264,7 +234,7 @@ module _ (written : (text : List ℕ) (one other : Hours) → StandsFor text one
 
   -- or a fault
   written_apart : (text mended : List ℕ) (bad : OptionsFault) → IsMended text mended → IsUnmended text bad → ⊥
-  written_apart text mended bad p (IsUnmended.faulty f) = sound_apart text bad p.sound f
+  written_apart text mended bad p (IsUnmended.faulty f) = sound_apart one_way text bad p.sound f
   written_apart text mended bad p (IsUnmended.token place sound f e) = no_place text p.is.tokens place p.is.are f
   written_apart text mended bad p (IsUnmended.checked m sound is f) =
       checked_apart p.moments.checked.text.items p.moments.forms.items mended bad
@@ -276,7 +246,7 @@ module _ (written : (text : List ℕ) (one other : Hours) → StandsFor text one
       → one ≡ other
   one_form names text one other p q =
       one_written q.form.text.items one other
-      (subst (λ (l : List ℕ). IsMended l one) (form_text names text p.form q.form p.is q.is) p.mends) q.mends
+      (subst (λ (l : List ℕ). IsMended l one) (same_form_text names text p.form q.form p.is q.is) p.mends) q.mends
 
   -- which has no fault then
   form_apart : (names : DayNames) (text mended : List ℕ) (bad : OptionsFault) → IsMendedForm names text mended
@@ -284,7 +254,7 @@ module _ (written : (text : List ℕ) (one other : Hours) → StandsFor text one
   form_apart names text mended bad p (IsFormFault.token why f e) = no_form names text p.form why p.is f
   form_apart names text mended bad p (IsFormFault.form form first is f e) =
       written_apart p.form.text.items mended first p.mends
-      (subst (λ (l : List ℕ). IsUnmended l first) (form_text names text form p.form is p.is) f)
+      (subst (λ (l : List ℕ). IsUnmended l first) (same_form_text names text form p.form is p.is) f)
 
   -- a text that is no plain hours has one mended text
   one_other : (names : DayNames) (text one other : List ℕ) → IsOtherText names text one → IsOtherText names text other

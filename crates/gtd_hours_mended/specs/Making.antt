@@ -1,11 +1,12 @@
 -- The rules of a text, each with the hours of its own text, its times and its comment.
-use Rattle.std.specs.Prelude.{◌≡◌, ◌⊎◌, ℕ, List, [], ◌∷◌, drop, is_some, length, take}
+use Rattle.std.specs.Prelude.{◌≡◌, ℕ, List, [], ◌∷◌, drop, is_some, length, take}
 use Rattle.gtd_hours.specs.declared.hours.Hours.{Hours}
 use Rattle.gtd_hours_grammar.specs.Faults.{IsFirstFault}
 use Rattle.gtd_hours_grammar.specs.declared.fault.HoursFault.{HoursFault}
 use Rattle.gtd_hours_text.specs.Standing.{StandsFor}
 use Rattle.gtd_hours_moving.specs.Words.{stretch}
 use Rattle.gtd_hours_holiday_rules.specs.declared.rules.HolidayRule.{HolidayRule}
+use Rattle.gtd_hours_known.specs.Rules.{IsRuleFault}
 use Rattle.gtd_hours_moments.specs.declared.moment.TimeForm.{TimeForm}
 use Rattle.gtd_hours_mended.specs.Comments.{no_comment}
 use Rattle.gtd_hours_mended.specs.Rules.{first_times}
@@ -54,12 +55,7 @@ abbrev pub IsOwnStop : HolidayRule → MakeStop → Type 0
 IsOwnStop from (stop.Own bad) = IsFirstFault from.text.items bad
 IsOwnStop from stop.NoMemory = Unit {0}
 
--- The own text of one of the rules has this first fault.
-abbrev pub IsOwnFault : List HolidayRule → HoursFault → Type 0
-IsOwnFault [] bad = ⊥
-IsOwnFault (from ∷ more) bad = IsFirstFault from.text.items bad ⊎ IsOwnFault more bad
-
--- why rules are not made
+-- Why rules are not made: the first fault of the first own text that is no hours.
 abbrev pub IsMakeStop : List HolidayRule → MakeStop → Type 0
-IsMakeStop found (stop.Own bad) = IsOwnFault found bad
+IsMakeStop found (stop.Own bad) = IsRuleFault found bad
 IsMakeStop found stop.NoMemory = Unit {0}

@@ -26,6 +26,7 @@ use Rattle.gtd_hours_loose.specs.declared.strict.StrictForm.{StrictForm}
 use Rattle.gtd_hours_loose_tokens.specs.declared.token.DayNames.{DayNames}
 use Rattle.gtd_hours_loose_tokens.specs.declared.token.TokenFault.{TokenFault}
 use Rattle.gtd_hours_known.specs.Manners.{token_fault}
+use Rattle.gtd_hours_known.specs.Rules.{IsRuleFault}
 use Rattle.gtd_hours_known.specs.declared.fault.KnownFault.{KnownFault}
 use Rattle.gtd_hours_known.specs.declared.fault.KnownFault.TheVariants as fault
 use Rattle.gtd_hours_known.specs.declared.known.KnownHours.{KnownHours}
@@ -38,7 +39,7 @@ use Rattle.gtd_hours_options.specs.declared.fault.OptionsReadFault.{OptionsReadF
 use Rattle.gtd_hours_options.specs.declared.fault.OptionsReadFault.TheVariants as reading
 use Rattle.gtd_hours_options.specs.declared.options.Options.{Options}
 use Rattle.gtd_hours_mended.specs.Comments.{comments_of}
-use Rattle.gtd_hours_mended.specs.Making.{AreMade, IsOwnFault}
+use Rattle.gtd_hours_mended.specs.Making.{AreMade}
 use Rattle.gtd_hours_mended.specs.Rules.{rules_text}
 use Rattle.gtd_hours_mended.specs.declared.making.MakeStop.{MakeStop}
 use Rattle.gtd_hours_mended.specs.declared.making.MakeStop.TheVariants as make
@@ -119,11 +120,11 @@ pub record IsMended (text mended : List ℕ) : Type 0 where
 
 -- ---- why a text has none
 
--- The own text of a rule of a text with these parts has this first fault.
+-- Of the rules of a text with these parts, the first one whose own text is no hours has this first fault there.
 pub record HasBadRuleOf (checked : List ℕ) (parts : List Part) (bad : HoursFault) : Type 0 where
   pub found : List HolidayRule
   pub rules : map said_by found ≡ rules_of checked parts
-  pub own : IsOwnFault found bad
+  pub own : IsRuleFault found bad
 
 pub record HasBadRuleIn (checked : List ℕ) (tokens : List Token) (bad : HoursFault) : Type 0 where
   pub items : List Item

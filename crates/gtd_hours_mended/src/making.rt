@@ -21,7 +21,7 @@ use std::alloc::{AllocError, Global};
 /// Why rules are not made.
 #[derive(Clone, Copy)]
 pub enum MakeStop {
-    /// The own text of a rule has this first fault. No text is known that has such a rule.
+    /// The own text of a rule has this first fault, and it is the first rule with one. No text is known that has such a rule.
     Own(HoursFault),
     /// Memory was refused.
     NoMemory,

@@ -8,4 +8,5 @@ pub mod OneOptions
 pub mod OneRules
 pub mod OneWay
 pub mod ReadingFacts
+pub mod RuleFaults
 pub mod WithoutTimes

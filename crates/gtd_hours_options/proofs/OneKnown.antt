@@ -25,10 +25,7 @@ use Rattle.gtd_hours_options.proofs.Alike.{AreAllAlike}
 use Rattle.gtd_hours_options.proofs.AlikeDays.{alike_same}
 use Rattle.gtd_hours_options.proofs.OneRules.{covered_apart, first_need_same, not_both, one_head, one_tail, rules_alike}
 use Rattle.gtd_hours_options.proofs.OneRules.{same_uncovered, the_one}
-
-own_text : (x y : HolidayRule) (xs ys : List HolidayRule) → map said_by (x ∷ xs) ≡ map said_by (y ∷ ys)
-    → x.text.items ≡ y.text.items
-own_text x y xs ys e = ap (λ (s : Said). s.text) (one_head (said_by x) (said_by y) (map said_by xs) (map said_by ys) e)
+use Rattle.gtd_hours_options.proofs.RuleFaults.{one_rule_fault, one_text_fault, sound_rules, sound_text}
 
 module _ (known : Known)
     (first_fault : (text : List ℕ) (one other : HoursFault) → IsFirstFault text one → IsFirstFault text other → one ≡ other)
@@ -41,39 +38,6 @@ module _ (known : Known)
     (one_told : (text : List ℕ) (one other : HolidayText) → IsHolidayText text one → IsHolidayText text other
     → one.told.items ≡ other.told.items)
     (no_place : (text : List ℕ) (read : HolidayText) (place : ℕ) → IsHolidayText text read → IsBadPlace text place → ⊥) where
-  -- ---- rules' own texts
-
-  sound_text : (text other : List ℕ) (bad : HoursFault) → text ≡ other → IsStrict text → IsFirstFault other bad → ⊥
-  sound_text text other bad same is q =
-      faultless text is.0 bad is.1 (subst (λ (t : List ℕ). IsFirstFault t bad) (sym same) q)
-
-  one_text_fault : (text other : List ℕ) (a b : HoursFault) → text ≡ other → IsFirstFault text a → IsFirstFault other b → a ≡ b
-  one_text_fault text other a b same p q =
-      first_fault other a b (subst (λ (t : List ℕ). IsFirstFault t a) same p) q
-
-  sound_rules : (xs ys : List HolidayRule) (bad : HoursFault) → map said_by xs ≡ map said_by ys → AreAllStrict xs
-      → IsRuleFault ys bad → ⊥
-  sound_rules [] [] bad e p q = q
-  sound_rules [] (y ∷ ys) bad e p q = absurd cc
-  sound_rules (x ∷ xs) [] bad e p q = q
-  sound_rules (x ∷ xs) (y ∷ ys) bad e p (inl q) =
-      sound_text x.text.items y.text.items bad (own_text x y xs ys e) p.0 q
-  sound_rules (x ∷ xs) (y ∷ ys) bad e p (inr q) =
-      sound_rules xs ys bad (one_tail (said_by x) (said_by y) (map said_by xs) (map said_by ys) e) p.1 q.1
-
-  one_rule_fault : (xs ys : List HolidayRule) (a b : HoursFault) → map said_by xs ≡ map said_by ys → IsRuleFault xs a
-      → IsRuleFault ys b → a ≡ b
-  one_rule_fault [] ys a b e p q = absurd p
-  one_rule_fault (x ∷ xs) [] a b e p q = absurd q
-  one_rule_fault (x ∷ xs) (y ∷ ys) a b e (inl p) (inl q) =
-      one_text_fault x.text.items y.text.items a b (own_text x y xs ys e) p q
-  one_rule_fault (x ∷ xs) (y ∷ ys) a b e (inl p) (inr q) =
-      absurd (sound_text y.text.items x.text.items a (sym (own_text x y xs ys e)) q.0 p)
-  one_rule_fault (x ∷ xs) (y ∷ ys) a b e (inr p) (inl q) =
-      absurd (sound_text x.text.items y.text.items b (own_text x y xs ys e) p.0 q)
-  one_rule_fault (x ∷ xs) (y ∷ ys) a b e (inr p) (inr q) =
-      one_rule_fault xs ys a b (one_tail (said_by x) (said_by y) (map said_by xs) (map said_by ys) e) p.1 q.1
-
   -- ---- a text with rules
 
   -- two texts that are read of the same text
@@ -94,14 +58,14 @@ module _ (known : Known)
 
   checked_sound : (f g : HolidayText) (bad : HoursFault) → Same f g → IsStrict f.checked.items
       → IsFirstFault g.checked.items bad → ⊥
-  checked_sound f g bad same is q = sound_text f.checked.items g.checked.items bad same.checked is q
+  checked_sound f g bad same is q = sound_text first_fault faultless f.checked.items g.checked.items bad same.checked is q
 
   one_holiday_fault : (f g : HolidayText) (a b : KnownFault) → Same f g → Same g f
       → IsHolidayFault known f a → IsHolidayFault known g b → a ≡ b
   one_holiday_fault f g a b s t (IsHolidayFault.checked x p e) (IsHolidayFault.checked y q d) =
       e
       ∙ ap (λ (bad : HoursFault). told (told_fault bad f.told.items))
-      (one_text_fault f.checked.items g.checked.items x y s.checked p q)
+      (one_text_fault first_fault faultless f.checked.items g.checked.items x y s.checked p q)
       ∙ ap (λ (l : List Told). told (told_fault y l)) s.told
       ∙ sym d
   one_holiday_fault f g a b s t (IsHolidayFault.checked x p e) (IsHolidayFault.own y u q d) =
@@ -111,25 +75,28 @@ module _ (known : Known)
   one_holiday_fault f g a b s t (IsHolidayFault.own x u p e) (IsHolidayFault.checked y q d) =
       absurd (checked_sound f g y s u q)
   one_holiday_fault f g a b s t (IsHolidayFault.own x u p e) (IsHolidayFault.own y v q d) =
-      e ∙ ap (λ (bad : HoursFault). of_text.Hours bad) (one_rule_fault f.rules.items g.rules.items x y s.rules p q) ∙ sym d
+      e
+      ∙ ap (λ (bad : HoursFault). of_text.Hours bad)
+      (one_rule_fault first_fault faultless f.rules.items g.rules.items x y s.rules p q)
+      ∙ sym d
   one_holiday_fault f g a b s t (IsHolidayFault.own x u p e) (IsHolidayFault.needed v q) =
-      absurd (sound_rules g.rules.items f.rules.items x t.rules v.rules p)
+      absurd (sound_rules first_fault faultless g.rules.items f.rules.items x t.rules v.rules p)
   one_holiday_fault f g a b s t (IsHolidayFault.needed u p) (IsHolidayFault.checked y q d) =
       absurd (checked_sound f g y s u.checked q)
   one_holiday_fault f g a b s t (IsHolidayFault.needed u p) (IsHolidayFault.own y v q d) =
-      absurd (sound_rules f.rules.items g.rules.items y s.rules u.rules q)
+      absurd (sound_rules first_fault faultless f.rules.items g.rules.items y s.rules u.rules q)
   one_holiday_fault f g a b s t (IsHolidayFault.needed u p) (IsHolidayFault.needed v q) =
       the_one (first_need known f.rules.items) (first_need known g.rules.items) a b (needs_same f g s) p q
   one_holiday_fault f g a b s t (IsHolidayFault.checked x p e) (IsHolidayFault.uncovered place day v n un d) =
       absurd (checked_sound g f x t v.checked p)
   one_holiday_fault f g a b s t (IsHolidayFault.own x u p e) (IsHolidayFault.uncovered place day v n un d) =
-      absurd (sound_rules g.rules.items f.rules.items x t.rules v.rules p)
+      absurd (sound_rules first_fault faultless g.rules.items f.rules.items x t.rules v.rules p)
   one_holiday_fault f g a b s t (IsHolidayFault.needed u p) (IsHolidayFault.uncovered place day v n un d) =
       absurd (not_both (first_need known g.rules.items) (first_need known f.rules.items) a (needs_same g f t) n p)
   one_holiday_fault f g a b s t (IsHolidayFault.uncovered place day u n un e) (IsHolidayFault.checked y q d) =
       absurd (checked_sound f g y s u.checked q)
   one_holiday_fault f g a b s t (IsHolidayFault.uncovered place day u n un e) (IsHolidayFault.own y v q d) =
-      absurd (sound_rules f.rules.items g.rules.items y s.rules u.rules q)
+      absurd (sound_rules first_fault faultless f.rules.items g.rules.items y s.rules u.rules q)
   one_holiday_fault f g a b s t (IsHolidayFault.uncovered place day u n un e) (IsHolidayFault.needed v q) =
       absurd (not_both (first_need known f.rules.items) (first_need known g.rules.items) b (needs_same f g s) n q)
   one_holiday_fault f g a b s t (IsHolidayFault.uncovered i x u n un e) (IsHolidayFault.uncovered j y v m also d) =
@@ -140,7 +107,7 @@ module _ (known : Known)
       → IsHolidayFault known g bad → ⊥
   not_both_so f g hours bad s u is (IsHolidayFault.checked y q d) = checked_sound f g y s u.checked q
   not_both_so f g hours bad s u is (IsHolidayFault.own y v q d) =
-      sound_rules f.rules.items g.rules.items y s.rules u.rules q
+      sound_rules first_fault faultless f.rules.items g.rules.items y s.rules u.rules q
   not_both_so f g hours bad s u is (IsHolidayFault.needed v q) =
       not_both (first_need known f.rules.items) (first_need known g.rules.items) bad (needs_same f g s) is.no_need q
   not_both_so f g hours bad s u is (IsHolidayFault.uncovered place day v n un d) =

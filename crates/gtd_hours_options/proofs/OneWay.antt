@@ -34,14 +34,14 @@ same_tokens : (names : DayNames) (text : List ℕ) (a b : StrictForm) (p : IsStr
     (q : IsStrictForm names text b) → p.tokens ≡ q.tokens
 same_tokens names text a b p q = one_list names text p.tokens q.tokens p.are q.are
 
-same_form_text : (names : DayNames) (text : List ℕ) (a b : StrictForm) → IsStrictForm names text a → IsStrictForm names text b
+pub same_form_text : (names : DayNames) (text : List ℕ) (a b : StrictForm) → IsStrictForm names text a → IsStrictForm names text b
     → a.text.items ≡ b.text.items
 same_form_text names text a b p q =
     p.holds.text
     ∙ ap (λ (ts : List LooseToken). strict_text (mended_tokens text ts)) (same_tokens names text a b p q)
     ∙ sym q.holds.text
 
-same_parts : (names : DayNames) (text : List ℕ) (a b : StrictForm) → IsStrictForm names text a → IsStrictForm names text b
+pub same_parts : (names : DayNames) (text : List ℕ) (a b : StrictForm) → IsStrictForm names text a → IsStrictForm names text b
     → a.parts.items ≡ b.parts.items
 same_parts names text a b p q =
     p.holds.parts
@@ -56,8 +56,8 @@ one_err : (names : DayNames) (text : List ℕ) (v w : TokenFault) → text_token
     → text_tokens names text ≡ Err w → v ≡ w
 one_err names text v w p q = cc
 
-one_token_fault : (names : DayNames) (text : List ℕ) (v w : TokenFault) → IsLooseFault names text v → IsLooseFault names text w
-    → v ≡ w
+pub one_token_fault : (names : DayNames) (text : List ℕ) (v w : TokenFault) → IsLooseFault names text v
+    → IsLooseFault names text w → v ≡ w
 one_token_fault names text v w (IsLooseFault.token e) (IsLooseFault.token f) = one_err names text v w e f
 one_token_fault names text v w (IsLooseFault.token e) (IsLooseFault.pair ys j f g is) = absurd (ok_or_err names text ys v f e)
 one_token_fault names text v w (IsLooseFault.pair xs i e h is) (IsLooseFault.token f) = absurd (ok_or_err names text xs w e f)
@@ -65,7 +65,7 @@ one_token_fault names text v w (IsLooseFault.pair xs i e h is) (IsLooseFault.pai
     let same = ap pair_fault (one_list names text xs ys e f) in
     is ∙ ap (λ (n : ℕ). token.Ambiguous n) (the_one (pair_fault xs) (pair_fault ys) i j same h g) ∙ sym so
 
-no_form : (names : DayNames) (text : List ℕ) (form : StrictForm) (w : TokenFault) → IsStrictForm names text form
+pub no_form : (names : DayNames) (text : List ℕ) (form : StrictForm) (w : TokenFault) → IsStrictForm names text form
     → IsLooseFault names text w → ⊥
 no_form names text form w p (IsLooseFault.token e) = ok_or_err names text p.tokens w p.are e
 no_form names text form w p (IsLooseFault.pair ys j e g is) =
