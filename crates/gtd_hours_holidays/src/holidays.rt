@@ -1,6 +1,6 @@
 //! A table of holidays, and what it says of days.
 
-ghost use Rattle.std.specs.Prelude.{◌≡◌, ◌↔◌, ◌⊎◌, ◌≤◌, ℤ, List, length, true, IfOk, IsTrue, MatchOption, OnOk};
+ghost use Rattle.std.specs.Prelude.{◌≡◌, ◌↔◌, ◌⊎◌, ◌≤◌, ℤ, List, [], length, true, IfOk, IsTrue, MatchOption, OnOk};
 ghost use Rattle.gtd_core.specs.Limits.{first_calendar_day};
 ghost use Rattle.gtd_calendar.specs.Calendar.{IsCalendarDay};
 ghost use Rattle.gtd_hours_holidays.specs.Covering.{IsAfterRow, IsCoveredUntil};
@@ -16,11 +16,21 @@ use crate::runs::day_after;
 use crate::table::read_rows;
 use std::alloc::{AllocError, Global};
 
+/// Where a row begins.
+#[derive(Clone, Copy)]
+struct Start {
+    day: i64,
+    /// The number of rows before it.
+    row: usize,
+}
+
 /// A table of holidays: what its rows say, in their order.
 #[derive(Drop)]
 pub struct Holidays {
     /// The rows, the first of which is row 1.
     pub rows: Vec<HolidayRow>,
+    // The rows by their first days. Nothing rests on this order: by it, rows that cover days are gone through in few turns.
+    starts: Vec<Start>,
 }
 
 /// Why a table of holidays is not read.
@@ -166,6 +176,19 @@ fn outside_of(alloc: Global, rows: &[HolidayRow]) -> Result<Vec<HolidaysFault>, 
     Ok(faults)
 }
 
+// The rows by their first days.
+fn starts_of(alloc: Global, rows: &[HolidayRow]) -> Result<Vec<Start>, AllocError> {
+    let mut starts = Vec::with_capacity(alloc, rows.len())?;
+    for (row, each) in rows.iter().enumerate() {
+        starts.push(Start {
+            day: each.first,
+            row,
+        })?;
+    }
+    starts.sort_unstable_by_key(|start| start.day);
+    Ok(starts)
+}
+
 /// The table of holidays that a file's bytes are, or all its faults.
 ///
 /// `TooLarge` and `Header` come alone. Otherwise each row that is at fault has its first one from the left, `FieldCount`,
@@ -183,7 +206,11 @@ pub fn read_holidays(alloc: Global, bytes: &[u8]) -> Result<Holidays, Unread>
     if !outside.is_empty() {
         return Err(Unread::Faults(outside));
     }
-    Ok(Holidays { rows: found.rows })
+    let starts = starts_of(alloc, found.rows.as_slice())?;
+    Ok(Holidays {
+        rows: found.rows,
+        starts,
+    })
 }
 
 // The day after the last one of a row, if it covers the day reached; otherwise that day.
@@ -196,8 +223,29 @@ fn after_row(row: &HolidayRow, kind: HolidayKind, until: i64) -> i64
     day_after(row.last)
 }
 
-// A day up to which rows of a kind cover all days from one on, the day itself only if they do not cover it. Rows in the order of
-// their days are gone through once.
+// Where the row at a place leads on from a day reached.
+fn after_place(rows: &[HolidayRow], place: usize, kind: HolidayKind, until: i64) -> i64
+    ensures { (day : ℤ) → IsCoveredUntil rows.now kind day until → IsCoveredUntil rows.now kind day result }
+{
+    if place >= rows.len() {
+        return until;
+    }
+    after_row(&rows[place], kind, until)
+}
+
+// A day up to which rows of a kind cover all days from one on, by rows in the order of their first days.
+fn covered_in_order(rows: &[HolidayRow], starts: &[Start], kind: HolidayKind, day: i64) -> i64
+    requires { IsCalendarDay day }
+    ensures { IsCoveredUntil rows.now kind day result }
+{
+    let mut until = day;
+    for start in starts {
+        until = after_place(rows, start.row, kind, until);
+    }
+    until
+}
+
+// A day up to which rows of a kind cover all days from one on, the day itself only if they do not cover it.
 fn covered_until(rows: &[HolidayRow], kind: HolidayKind, day: i64) -> i64
     requires { IsCalendarDay day }
     ensures until { IsCoveredUntil rows.now kind day result }
@@ -211,6 +259,16 @@ fn covered_until(rows: &[HolidayRow], kind: HolidayKind, day: i64) -> i64
 }
 
 impl Holidays {
+    /// A table without rows. Takes no memory.
+    pub fn none(alloc: Global) -> Holidays
+        ensures none { result.rows.items ≡ [] }
+    {
+        Holidays {
+            rows: Vec::new(alloc),
+            starts: Vec::new(alloc),
+        }
+    }
+
     /// Whether a day is a holiday of this kind. Takes no memory.
     pub fn is_holiday(&self, kind: HolidayKind, day: i64) -> bool
         ensures is { IsTrue result ↔ IsHoliday self.now.rows.items kind day }
@@ -239,11 +297,16 @@ impl Holidays {
             (AreAll (IsCovered self.now.rows.items kind) from to)
             (IsFirstWithout (IsCovered self.now.rows.items kind) from to) }
     {
+        let rows = self.rows.as_slice();
         let mut day = from;
         while day <= to {
-            let until = covered_until(self.rows.as_slice(), kind, day);
-            if until == day {
-                return Some(day);
+            let near = covered_in_order(rows, self.starts.as_slice(), kind, day);
+            if near > to {
+                return None;
+            }
+            let until = covered_until(rows, kind, near);
+            if until == near {
+                return Some(near);
             }
             day = until;
         }

@@ -43,9 +43,7 @@ fn days_in(
     ensures stop { IfErr result (λ why. why ≡ stop.NoMemory) }
 {
     let listed = listed_of(alloc, easter)?;
-    let table = Holidays {
-        rows: Vec::new(alloc),
-    };
+    let table = Holidays::none(alloc);
     match listed_selectors(alloc, &table, years, listed.as_slice()) {
         Ok(days) => Ok(days),
         Err(why) => match why {
