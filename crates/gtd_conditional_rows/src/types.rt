@@ -45,26 +45,22 @@ impl Types {
     pub fn common(&self, other: &Types) -> Types
         ensures { (t : ℕ) → IsVehicle t → HasType result t ↔ (HasType self.now t × HasType other.now t) }
     {
-        let mut common = Types::none();
+        let mut has = [false; 100];
         for vehicle in 1..100 {
-            if self.has(vehicle) && other.has(vehicle) {
-                common.add(vehicle);
-            }
+            has[vehicle] = self.has[vehicle] && other.has[vehicle];
         }
-        common
+        Types { has }
     }
 
     /// The other types.
     pub fn others(&self) -> Types
         ensures { (t : ℕ) → IsVehicle t → HasType result t ↔ (HasType self.now t → ⊥) }
     {
-        let mut others = Types::none();
+        let mut has = [false; 100];
         for vehicle in 1..100 {
-            if !self.has(vehicle) {
-                others.add(vehicle);
-            }
+            has[vehicle] = !self.has[vehicle];
         }
-        others
+        Types { has }
     }
 
     // Whether both have the same types.

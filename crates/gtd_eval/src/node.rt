@@ -135,12 +135,24 @@ fn next_of_two<L: Leaf>(sweep: &mut Sweep, left: &mut Node<L>, right: &mut Node<
     loop {
         match sweep.step() {
             Ask::Left => {
-                let told = left.next();
-                sweep.tell(told);
+                let Some(x) = left.next() else {
+                    sweep.tell(None);
+                    continue;
+                };
+                if sweep.gives_left(x) {
+                    return Some(x);
+                }
+                sweep.tell(Some(x));
             }
             Ask::Right => {
-                let told = right.next();
-                sweep.tell(told);
+                let Some(x) = right.next() else {
+                    sweep.tell(None);
+                    continue;
+                };
+                if sweep.gives_right(x) {
+                    return Some(x);
+                }
+                sweep.tell(Some(x));
             }
             Ask::Give(x) => return Some(x),
             Ask::End => return None,

@@ -1,5 +1,5 @@
 -- What a merge still has to hand out, given what its sides still give.
-use Rattle.std.specs.Prelude.{ℕ, ◌+◌, ◌≡◌, ◌≢◌, ◌<ℤ◌, List, [], ◌∷◌, Option, Some, None}
+use Rattle.std.specs.Prelude.{ℕ, ◌+◌, ◌≡◌, ◌≢◌, ◌<ℤ◌, ◌≤ℤ◌, List, [], ◌∷◌, Option, Some, None}
 use Rattle.gtd_core.specs.Seconds.{Interval}
 use Rattle.gtd_core.specs.declared.domain.Op.{Op}
 use Rattle.gtd_core.specs.declared.domain.Op.TheVariants.{Union, Meet, Minus}
@@ -101,6 +101,45 @@ TellsLeft s told t = (before after r : List Interval) → Takes before told afte
 abbrev pub TellsRight : Merge → Option Interval → Merge → Type 0
 TellsRight s told t = (l before after : List Interval) → Takes before told after → Fits s l before
     → Fits t l after × (still s l before ≡ still t l after)
+
+-- the side is known to have an interval that contains the whole of another
+abbrev pub Covers : Side → Interval → Type 0
+Covers Open x = ⊥
+Covers (Held y) x = (y.from ≤ℤ x.from) × (x.until ≤ℤ y.until)
+Covers Ended x = ⊥
+
+-- the side is known to have nothing before an interval ends
+abbrev pub ComesBehind : Side → Interval → Type 0
+ComesBehind Open x = ⊥
+ComesBehind (Held y) x = x.until ≤ℤ y.from
+ComesBehind Ended x = Unit {0}
+
+-- an interval that comes first on the left side is the next one of the result, by what is held of the right side; the same for
+-- the right side
+abbrev pub IsLeftGivenBy : Op → Side → Interval → Type 0
+IsLeftGivenBy Union side x = ⊥
+IsLeftGivenBy Meet side x = Covers side x
+IsLeftGivenBy Minus side x = ComesBehind side x
+
+abbrev pub IsRightGivenBy : Op → Side → Interval → Type 0
+IsRightGivenBy Union side x = ⊥
+IsRightGivenBy Meet side x = Covers side x
+IsRightGivenBy Minus side x = ⊥
+
+abbrev pub IsLeftGiven : Merge → Interval → Type 0
+IsLeftGiven s x = IsLeftGivenBy s.op s.right x
+
+abbrev pub IsRightGiven : Merge → Interval → Type 0
+IsRightGiven s x = IsRightGivenBy s.op s.left x
+
+-- the first interval of the left side is handed out, and the state stays; the same for the right side
+abbrev pub GivesLeft : Merge → Interval → Type 0
+GivesLeft s x = (before after r : List Interval) → Takes before (Some x) after → Fits s before r
+    → Fits s after r × (still s before r ≡ x ∷ still s after r)
+
+abbrev pub GivesRight : Merge → Interval → Type 0
+GivesRight s x = (l before after : List Interval) → Takes before (Some x) after → Fits s l before
+    → Fits s l after × (still s l before ≡ x ∷ still s l after)
 
 -- how many of the sides have not ended
 abbrev pub unended_sides : Merge → ℕ

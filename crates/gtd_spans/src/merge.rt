@@ -1,11 +1,11 @@
 //! The merge of two sorted sides under a sweep.
 
-ghost use Rattle.std.specs.Prelude.{◌≡◌, ◌≢◌, ◌⊎◌, ◌↔◌, ◌<ℤ◌, ◌≤ℤ◌, ℤ, ◌+◌, List, IfSome};
+ghost use Rattle.std.specs.Prelude.{◌≡◌, ◌≢◌, ◌⊎◌, ◌↔◌, ◌<ℤ◌, ◌≤ℤ◌, ℤ, ◌+◌, List, IfSome, true};
 ghost use Rattle.gtd_core.specs.Seconds.{Interval, Within};
 ghost use Rattle.gtd_core.specs.declared.domain.Op.TheVariants.{Union, Meet, Minus};
 ghost use Rattle.gtd_spans.specs.Normal.{Holds, IsNormal, combine};
 ghost use Rattle.gtd_spans.specs.Merging.{listed, side_list, AllBeginFrom, Fits, still, AwaitsLeft, AwaitsRight, Steps};
-ghost use Rattle.gtd_spans.specs.Merging.{SameEnded, TellsLeft, TellsRight, unended_sides, told_count};
+ghost use Rattle.gtd_spans.specs.Merging.{SameEnded, TellsLeft, TellsRight, GivesLeft, GivesRight, unended_sides, told_count};
 
 use gtd_core::{Op, Span};
 
@@ -21,7 +21,7 @@ pub(crate) enum Side {
 }
 
 impl Side {
-    ghost use Rattle.gtd_spans.specs.Merging.{ComesFirst};
+    ghost use Rattle.gtd_spans.specs.Merging.{ComesFirst, Covers, ComesBehind};
 
     /// A side that was told its next span, or that it has none.
     #[inline(always)]
@@ -31,6 +31,29 @@ impl Side {
         match told {
             Some(x) => Side::Held(x),
             None => Side::Ended,
+        }
+    }
+
+    /// Whether it has a next span, and that contains the whole of another one.
+    #[inline(always)]
+    fn covers(self, x: Span) -> bool
+        ensures value { result ≡ true ↔ Covers self x }
+    {
+        match self {
+            Side::Held(y) => y.from() <= x.from() && x.until() <= y.until(),
+            Side::Open | Side::Ended => false,
+        }
+    }
+
+    /// Whether it is known that it has no seconds before a span ends.
+    #[inline(always)]
+    fn comes_behind(self, x: Span) -> bool
+        ensures value { result ≡ true ↔ ComesBehind self x }
+    {
+        match self {
+            Side::Held(y) => x.until() <= y.from(),
+            Side::Ended => true,
+            Side::Open => false,
         }
     }
 }
@@ -82,6 +105,7 @@ fn joined(kept: Option<Span>, next: Span) -> (Option<Span>, Span)
 
 impl Merge {
     ghost use Rattle.gtd_spans.specs.declared.merge.Side.TheVariants.{Open, Held, Ended};
+    ghost use Rattle.gtd_spans.specs.Merging.{IsLeftGiven, IsRightGiven};
 
     /// The merge of an operator, before any step.
     pub fn new(op: Op) -> Merge
@@ -108,6 +132,34 @@ impl Merge {
             Op::Union => self.step_union(),
             Op::Meet => self.step_meet(),
             Op::Minus => self.step_minus(),
+        }
+    }
+
+    /// Whether the first span of the left side, which the last step asked for, is the next one of the result as it is. Then it
+    /// is given, and nothing is to be told.
+    #[inline(always)]
+    pub fn gives_left(&self, x: Span) -> bool
+        ensures value { result ≡ true ↔ IsLeftGiven self.now x }
+        ensures gives { result ≡ true → AwaitsLeft self.now → GivesLeft self.now x }
+    {
+        let right = self.right;
+        match self.op {
+            Op::Union => false,
+            Op::Meet => right.covers(x),
+            Op::Minus => right.comes_behind(x),
+        }
+    }
+
+    /// The same for the right side: only an intersection gives a span of it.
+    #[inline(always)]
+    pub fn gives_right(&self, x: Span) -> bool
+        ensures value { result ≡ true ↔ IsRightGiven self.now x }
+        ensures gives { result ≡ true → AwaitsRight self.now → GivesRight self.now x }
+    {
+        let left = self.left;
+        match self.op {
+            Op::Meet => left.covers(x),
+            Op::Union | Op::Minus => false,
         }
     }
 

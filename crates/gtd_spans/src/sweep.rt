@@ -1,6 +1,6 @@
 //! Set operators without their sides.
 
-ghost use Rattle.std.specs.Prelude.{◌≡◌, ◌≢◌, ◌≤◌, ◌+◌, ◌↔◌, ℤ, List, [], ◌∷◌, None};
+ghost use Rattle.std.specs.Prelude.{◌≡◌, ◌≢◌, ◌≤◌, ◌+◌, ◌↔◌, ℤ, List, [], ◌∷◌, None, true};
 ghost use Rattle.gtd_core.specs.Seconds.{Interval, Within};
 ghost use Rattle.gtd_core.specs.Whole.{whole};
 ghost use Rattle.gtd_core.specs.declared.domain.Op.TheVariants.{Minus};
@@ -37,6 +37,7 @@ impl Sweep {
     ghost use Rattle.gtd_spans.specs.Merging.{told_count};
     ghost use Rattle.gtd_spans.specs.Sweeping.{still, Fits, AwaitsLeft, AwaitsRight, HasOneSide, LeftEnded, RightEnded};
     ghost use Rattle.gtd_spans.specs.Sweeping.{Steps, TellsLeft, TellsRight, unended_sides};
+    ghost use Rattle.gtd_spans.specs.Sweeping.{IsLeftGiven, IsRightGiven, GivesLeft, GivesRight};
 
     /// The sweep of an operator over two sides, before any step.
     pub fn new(op: Op) -> Sweep
@@ -85,6 +86,31 @@ impl Sweep {
         match self.sides {
             Sides::Both => self.merge.step(),
             Sides::Left => self.merge.step_beside(),
+        }
+    }
+
+    /// Whether a span, if the side that the last step asked for has it as its first, is also the next one of the result. Then it
+    /// is handed out, and nothing is to be told. This is known of the left side of an intersection or difference.
+    #[inline(always)]
+    pub fn gives_left(&self, x: Span) -> bool
+        ensures value { result ≡ true ↔ IsLeftGiven self.now x }
+        ensures gives { result ≡ true → AwaitsLeft self.now → GivesLeft self.now x }
+    {
+        match self.sides {
+            Sides::Both => self.merge.gives_left(x),
+            Sides::Left => false,
+        }
+    }
+
+    /// The same for the right side, of which it is known for an intersection.
+    #[inline(always)]
+    pub fn gives_right(&self, x: Span) -> bool
+        ensures value { result ≡ true ↔ IsRightGiven self.now x }
+        ensures gives { result ≡ true → AwaitsRight self.now → GivesRight self.now x }
+    {
+        match self.sides {
+            Sides::Both => self.merge.gives_right(x),
+            Sides::Left => false,
         }
     }
 

@@ -22,14 +22,14 @@ pub next_of_two-loop-left-preserved-in-Left : goal.next_of_two-loop-left-preserv
 next_of_two-loop-left-preserved-in-Left g t c =
     let old = c.loop-left.invariant in
     let kept = c.in-Left.ensures.steps.1 (node_list g.L.Leaf c.loop-left.left) (node_list g.L.Leaf c.loop-left.right) old.fits in
-    let told = c.tell.ensures.left c.in-Left.ensures.steps.0 (node_list g.L.Leaf c.loop-left.left)
-    (node_list g.L.Leaf c.next-told.new.self) (node_list g.L.Leaf c.loop-left.right) c.next-told.ensures.takes kept.0 in
+    let told = c.tell-in-Left.ensures.left c.in-Left.ensures.steps.0 (node_list g.L.Leaf c.loop-left.left)
+    (node_list g.L.Leaf c.next.new.self) (node_list g.L.Leaf c.loop-left.right) (rw c.in-Some.is at c.next.ensures.takes) kept.0 in
     record {
-      left_sound = c.next-told.ensures.sound;
+      left_sound = c.next.ensures.sound;
       right_sound = old.right_sound;
       fits = told.0;
       same = old.same ∙ kept.1 ∙ told.1;
-      left_shape = c.next-told.ensures.shape ∙ old.left_shape;
+      left_shape = c.next.ensures.shape ∙ old.left_shape;
       right_shape = old.right_shape;
     }
 
@@ -38,13 +38,29 @@ next_of_two-loop-left-preserved g t c =
     let old = c.loop-left.invariant in
     let kept = c.in-Right.ensures.steps.1 (node_list g.L.Leaf c.loop-left.left) (node_list g.L.Leaf c.loop-left.right) old.fits in
     let told = c.tell-in-Right.ensures.right c.in-Right.ensures.steps.0 (node_list g.L.Leaf c.loop-left.left)
-    (node_list g.L.Leaf c.loop-left.right) (node_list g.L.Leaf c.next-told-in-Right.new.self) c.next-told-in-Right.ensures.takes
-    kept.0 in
+    (node_list g.L.Leaf c.loop-left.right) (node_list g.L.Leaf c.next-in-Right.new.self)
+    (rw c.in-Some-next.is at c.next-in-Right.ensures.takes) kept.0 in
     record {
       left_sound = old.left_sound;
-      right_sound = c.next-told-in-Right.ensures.sound;
+      right_sound = c.next-in-Right.ensures.sound;
       fits = told.0;
       same = old.same ∙ kept.1 ∙ told.1;
       left_shape = old.left_shape;
-      right_shape = c.next-told-in-Right.ensures.shape ∙ old.right_shape;
+      right_shape = c.next-in-Right.ensures.shape ∙ old.right_shape;
+    }
+
+pub next_of_two-loop-left-preserved-in_default : goal.next_of_two-loop-left-preserved-in_default
+next_of_two-loop-left-preserved-in_default g t c =
+    let old = c.loop-left.invariant in
+    let kept = c.in-Left.ensures.steps.1 (node_list g.L.Leaf c.loop-left.left) (node_list g.L.Leaf c.loop-left.right) old.fits in
+    let told = c.tell.ensures.left c.in-Left.ensures.steps.0 (node_list g.L.Leaf c.loop-left.left)
+    (node_list g.L.Leaf c.next.new.self) (node_list g.L.Leaf c.loop-left.right) (rw c.in_default.is at c.next.ensures.takes)
+    kept.0 in
+    record {
+      left_sound = c.next.ensures.sound;
+      right_sound = old.right_sound;
+      fits = told.0;
+      same = old.same ∙ kept.1 ∙ told.1;
+      left_shape = c.next.ensures.shape ∙ old.left_shape;
+      right_shape = old.right_shape;
     }

@@ -1,8 +1,13 @@
-use Rattle.std.proofs.Common.{◌↔◌, ◌<◌, ℕ}
+use Rattle.std.proofs.Common.{◌≡◌, ◌↔◌, ◌<◌, ℕ, IsTrue, false, length}
+use Rattle.std.specs.Prelude.{slice_index_or}
 use Rattle.gtd_conditional_rows.specs.Types.{HasType, IsVehicle}
 use Rattle.gtd_conditional_rows.proofs.types.Types.common.Given as goal
 
 -- the common types so far
 abbrev pub invariant-loop-vehicle : goal.invariant-loop-vehicle
-invariant-loop-vehicle l = (t : ℕ) → IsVehicle t
-    → HasType l.common t ↔ ((t < l.vehicle) × (HasType l.self t × HasType l.other t))
+invariant-loop-vehicle l = record {
+  long : length l.has ≡ 100;
+  none : slice_index_or l.has 0 false ≡ false;
+  types : (t : ℕ) → IsVehicle t
+      → IsTrue (slice_index_or l.has t false) ↔ ((t < l.vehicle) × (HasType l.self t × HasType l.other t));
+}
