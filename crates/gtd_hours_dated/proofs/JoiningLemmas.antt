@@ -19,7 +19,8 @@ AreSoFar placed more past made =
     (rest : List (List Selector)) → with_dates more (selectors past ++ rest) ≡ selectors made ++ kinds_left placed more rest
 
 by_place : (years month_days : Bool) (more : More) (kind : List Selector) (rest : List (List Selector))
-    → (if years then kind ∷ with_dates more rest else if month_days then all_days more kind ∷ rest else all_days more [] ∷ kind ∷ rest)
+    → (if years then kind ∷ with_dates more rest else if month_days then all_days more kind ∷ rest
+    else all_days more [] ∷ kind ∷ rest)
     ≡ (if years then kind ∷ [] else if month_days then all_days more kind ∷ [] else all_days more [] ∷ kind ∷ [])
     ++ kinds_left (not years) more rest
 by_place true month_days more kind rest = refl

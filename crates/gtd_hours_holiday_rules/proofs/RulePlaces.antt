@@ -1,5 +1,5 @@
--- Each rule has a place for each of its holidays and its days of Easter, its order has its holidays, and the list of its month days
--- its ranges that move and days of Easter: the lists grow together.
+-- Each rule has a place for each of its holidays and its days of Easter, its order has its holidays, and the list of its month
+-- days its ranges that move and days of Easter: the lists grow together.
 use Rattle.std.proofs.Common.{◌≡◌, ◌∙◌, ◌+◌, ap, ℕ, zero, suc, List, [], ◌∷◌, ◌++◌, Bool, true, false, length, map, refl, sym}
 use Rattle.std.proofs.Common.{subst, arith, length-append, replicate}
 use Rattle.std.specs.Prelude.{if◌then◌else◌}
@@ -127,8 +127,7 @@ either false xs ys p q = q
 rules_placed : (text : List ℕ) (rule : Said) (parts : List Part) → HasPlaces rule → HavePlaces (rules_from text rule parts)
 rules_placed text rule [] e = (e.0, e.1, e.2, e.3, e.4, tt)
 rules_placed text rule (p ∷ parts) e =
-    either (begins_rule (link_behind p.role)) _ _
-    (
+    either (begins_rule (link_behind p.role)) _ _ (
       e.0,
       e.1,
       e.2,

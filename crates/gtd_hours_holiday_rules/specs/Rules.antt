@@ -195,8 +195,8 @@ easter_in (month_item.Own ∷ items) = easter_in items
 easter_in (month_item.Moving ∷ items) = easter_in items
 easter_in (month_item.Easter ∷ items) = suc (easter_in items)
 
--- Each of the rules has a place for each of its holidays, and of its days of Easter; its order has as many holidays as it, and the
--- list of its month days as many ranges that move and days of Easter.
+-- Each of the rules has a place for each of its holidays, and of its days of Easter; its order has as many holidays as it, and
+-- the list of its month days as many ranges that move and days of Easter.
 abbrev pub HavePlaces : List Said → Type 0
 HavePlaces [] = ⊤
 HavePlaces (rule ∷ rules) =

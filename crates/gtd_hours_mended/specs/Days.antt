@@ -49,7 +49,8 @@ with_easter text (x ∷ xs) = with_easter (listed text (easter_text x)) xs
 abbrev pub with_selectors : List ℕ → List Selector → List ℕ
 with_selectors text xs = listed text (kind_text false xs)
 
--- A list with these month days behind it, in this order: those of a rule's own text, its ranges that move, and its days of Easter.
+-- A list with these month days behind it, in this order: those of a rule's own text, its ranges that move, and its days of
+-- Easter.
 abbrev pub with_month_days : List ℕ → List MonthItem → List Selector → List Selector → List EasterDays → List ℕ
 with_month_days text [] own dates easter = with_easter (with_selectors (with_selectors text own) dates) easter
 with_month_days text (item.Own ∷ items) own dates easter =
