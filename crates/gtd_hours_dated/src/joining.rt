@@ -3,9 +3,10 @@
 ghost use Rattle.std.specs.Prelude.{◌≡◌, ◌∷◌, ◌++◌, [], IfOk};
 ghost use Rattle.gtd_hours.specs.Writable.{is_years, selectors};
 ghost use Rattle.gtd_hours_dated.specs.Dated.{AreDatedRules, IsDatedRule, is_month_days, names_month_days, names_years};
-ghost use Rattle.gtd_hours_dated.specs.Dated.{is_placed, kind_with, kinds_left, with_dates};
+ghost use Rattle.gtd_hours_dated.specs.Dated.{is_placed, kind_with, kinds_left, more_of, with_dates};
 
-use crate::kinds::{joined, kind_of, with_one, with_two};
+use crate::kinds::{with_one, with_two};
+use crate::more::{MoreDays, all_days};
 use gtd_hours::{Kind, Rule, Selector};
 use std::alloc::{AllocError, Global};
 
@@ -65,19 +66,19 @@ fn with_next(
     list: Vec<Kind>,
     kind: Kind,
     placed: bool,
-    dates: &[Selector],
+    more: &MoreDays,
 ) -> Result<Vec<Kind>, AllocError>
     ensures { IfOk result (λ then. selectors then.items
-        ≡ selectors list.items ++ kind_with placed dates.now kind.selectors.items) }
+        ≡ selectors list.items ++ kind_with placed (more_of more.now) kind.selectors.items) }
 {
     if placed || names_years(kind.selectors.as_slice()) {
         return with_one(list, kind);
     }
     if names_month_days(kind.selectors.as_slice()) {
-        let both = joined(kind, dates)?;
+        let both = all_days(alloc, kind.selectors.as_slice(), more)?;
         return with_one(list, both);
     }
-    let own = kind_of(alloc, dates)?;
+    let own = all_days(alloc, &[], more)?;
     with_two(list, own, kind)
 }
 
@@ -86,14 +87,14 @@ fn with_last(
     alloc: Global,
     list: Vec<Kind>,
     placed: bool,
-    dates: &[Selector],
+    more: &MoreDays,
 ) -> Result<Vec<Kind>, AllocError>
-    ensures { IfOk result (λ then. selectors then.items ≡ selectors list.items ++ kinds_left placed dates.now []) }
+    ensures { IfOk result (λ then. selectors then.items ≡ selectors list.items ++ kinds_left placed (more_of more.now) []) }
 {
     if placed {
         return Ok(list);
     }
-    let own = kind_of(alloc, dates)?;
+    let own = all_days(alloc, &[], more)?;
     with_one(list, own)
 }
 
@@ -101,25 +102,25 @@ fn with_last(
 fn kinds_with_dates(
     alloc: Global,
     kinds: Vec<Kind>,
-    dates: &[Selector],
+    more: &MoreDays,
 ) -> Result<Vec<Kind>, AllocError>
-    ensures { IfOk result (λ then. selectors then.items ≡ with_dates dates.now (selectors kinds.items)) }
+    ensures { IfOk result (λ then. selectors then.items ≡ with_dates (more_of more.now) (selectors kinds.items)) }
 {
     let mut made = Vec::new(alloc);
     let mut placed = false;
     for kind in kinds {
         let then = is_placed(placed, kind.selectors.as_slice());
-        made = with_next(alloc, made, kind, placed, dates)?;
+        made = with_next(alloc, made, kind, placed, more)?;
         placed = then;
     }
-    with_last(alloc, made, placed, dates)
+    with_last(alloc, made, placed, more)
 }
 
 // A rule with more month days.
-fn with_dates(alloc: Global, rule: Rule, dates: &[Selector]) -> Result<Rule, AllocError>
-    ensures { IfOk result (IsDatedRule dates.now rule) }
+fn with_dates(alloc: Global, rule: Rule, more: &MoreDays) -> Result<Rule, AllocError>
+    ensures { IfOk result (IsDatedRule (more_of more.now) rule) }
 {
-    let kinds = kinds_with_dates(alloc, rule.kinds, dates)?;
+    let kinds = kinds_with_dates(alloc, rule.kinds, more)?;
     Ok(Rule {
         link: rule.link,
         kinds,
@@ -132,13 +133,13 @@ fn with_dates(alloc: Global, rule: Rule, dates: &[Selector]) -> Result<Rule, All
 pub(crate) fn rules_with_dates(
     alloc: Global,
     rules: Vec<Rule>,
-    dates: &[Selector],
+    more: &MoreDays,
 ) -> Result<Vec<Rule>, AllocError>
-    ensures { IfOk result (λ made. AreDatedRules dates.now rules.items made.items) }
+    ensures { IfOk result (λ made. AreDatedRules (more_of more.now) rules.items made.items) }
 {
     let mut made = Vec::new(alloc);
     for rule in rules {
-        let with = with_dates(alloc, rule, dates)?;
+        let with = with_dates(alloc, rule, more)?;
         made.push(with)?;
     }
     Ok(made)

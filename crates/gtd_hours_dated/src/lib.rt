@@ -4,7 +4,9 @@
 mod joining;
 mod kinds;
 pub mod laws;
+mod more;
 mod reader;
 
 pub use kinds::{joined, kind_of, with_one, with_two};
+pub use more::{MonthItem, MoreDays};
 pub use reader::read_dated_hours;

@@ -1,11 +1,12 @@
 //! The hours that a text stands for with more month days.
 
 ghost use Rattle.std.specs.Prelude.{IfErr, IfOk, Some};
-ghost use Rattle.gtd_hours_dated.specs.Dated.{IsDatedHours};
+ghost use Rattle.gtd_hours_dated.specs.Dated.{IsDatedHours, more_of};
 ghost use Rattle.gtd_hours_text.specs.Reading.{IsFaultOf};
 
 use crate::joining::rules_with_dates;
-use gtd_hours::{Hours, Selector};
+use crate::more::MoreDays;
+use gtd_hours::Hours;
 use gtd_hours_text::{HoursTextFault, read_hours};
 use std::alloc::Global;
 
@@ -15,13 +16,13 @@ use std::alloc::Global;
 pub fn read_dated_hours(
     alloc: Global,
     text: &[u8],
-    dates: &[Selector],
+    more: &MoreDays,
 ) -> Result<Hours, HoursTextFault>
-    ensures hours { IfOk result (λ hours. IsDatedHours text.now (Some dates.now) hours) }
+    ensures hours { IfOk result (λ hours. IsDatedHours text.now (Some (more_of more.now)) hours) }
     ensures fault { IfErr result (λ fault. IsFaultOf text.now fault) }
 {
     let plain = read_hours(alloc, text)?;
-    match rules_with_dates(alloc, plain.rules, dates) {
+    match rules_with_dates(alloc, plain.rules, more) {
         Ok(rules) => Ok(Hours { rules }),
         Err(_) => Err(HoursTextFault::NoMemory),
     }

@@ -58,11 +58,12 @@ dates_go_on last.Dates later = begins_date later
 dates_go_on last.Easter later = begins_date later
 dates_go_on l later = begins_month_days later
 
--- a comma behind a list of month days, with months or dates or without: in the rule's own text it stands between these alone
+-- A comma behind a list of month days, with months or dates or without: in the rule's own text it stands between these alone, and
+-- with it the next of them begins.
 abbrev pub dates_comma : Bool → Last → List Item → Role
 dates_comma beside l later =
     if begins is_dates later then role.Unwritten
-    else if dates_go_on l later then if beside then role.Kept else role.Unwritten
+    else if dates_go_on l later then if beside then role.MonthDay else role.Unwritten
     else role.Begins link.Also
 
 abbrev pub comma_role : Behind → Last → List Item → Role
@@ -134,9 +135,17 @@ abbrev pub colon_role : Behind → Role
 colon_role (behind.Moving beside) = role.Unwritten
 colon_role b = role.Kept
 
+-- A month: the first of a rule's own month days begins with it. Others begin with their commas.
+abbrev pub month_role : Behind → Role
+month_role behind.Front = role.MonthDay
+month_role behind.Years = role.MonthDay
+month_role (behind.Moving false) = role.MonthDay
+month_role b = role.Kept
+
 abbrev pub token_role : Behind → Last → TokenKind → List Item → Role
 token_role b l kind.Comma later = comma_role b l later
 token_role b l kind.Semicolon later = role.Begins link.Instead
+token_role b l (kind.Month m) later = month_role b
 token_role b l (kind.Weekday d) later = weekday_role b l later
 token_role b l kind.OpenBracket later = bracket_role (role.Weekdays (places later)) b
 token_role b l kind.Plus later = sign_role b l

@@ -5,6 +5,8 @@ use Rattle.std.specs.Prelude.{[], ◌∷◌, ◌++◌, Option, Some, None, codes
 use Rattle.gtd_hours.specs.declared.hours.Link.{Link}
 use Rattle.gtd_hours.specs.declared.hours.Link.TheVariants as link
 use Rattle.gtd_hours.specs.declared.hours.Selector.{Selector}
+use Rattle.gtd_hours_dated.specs.declared.more.MonthItem.{MonthItem}
+use Rattle.gtd_hours_dated.specs.declared.more.MonthItem.TheVariants as month_item
 use Rattle.gtd_hours_days.specs.declared.listed.EasterDays.{EasterDays}
 use Rattle.gtd_hours_days.specs.declared.listed.Listed.{Listed}
 use Rattle.gtd_hours_items.specs.declared.items.Item.{Item}
@@ -23,6 +25,7 @@ pub record Said : Type 0 where
   pub holidays : List Listed
   pub places : List ℕ
   pub order : List Bool
+  pub month_items : List MonthItem
   pub dates : List Selector
   pub easter : List EasterDays
   pub easter_places : List ℕ
@@ -39,6 +42,7 @@ said_by rule = record {
   holidays = rule.holidays.items;
   places = rule.places.items;
   order = rule.order.items;
+  month_items = rule.month_items.items;
   dates = rule.dates.items;
   easter = rule.easter.items;
   easter_places = rule.easter_places.items;
@@ -57,6 +61,7 @@ begun link = record {
   holidays = [];
   places = [];
   order = [];
+  month_items = [];
   dates = [];
   easter = [];
   easter_places = [];
@@ -73,6 +78,10 @@ with_text rule bytes = record rule { text = rule.text ++ bytes }
 abbrev pub with_weekdays : Said → List ℕ → ℕ → Said
 with_weekdays rule bytes count = record (with_text rule bytes) { order = rule.order ++ replicate count false }
 
+-- one of its own selectors of month days more
+abbrev pub with_month_day : Said → List ℕ → Said
+with_month_day rule bytes = record (with_text rule bytes) { month_items = rule.month_items ++ month_item.Own ∷ [] }
+
 abbrev pub with_holiday : Said → Listed → ℕ → Said
 with_holiday rule h place = record rule {
   holidays = rule.holidays ++ h ∷ [];
@@ -81,11 +90,17 @@ with_holiday rule h place = record rule {
 }
 
 abbrev pub with_date : Said → Selector → Said
-with_date rule days = record rule { dates = rule.dates ++ days ∷ [] }
+with_date rule days = record rule {
+  month_items = rule.month_items ++ month_item.Moving ∷ [];
+  dates = rule.dates ++ days ∷ [];
+}
 
 abbrev pub with_easter : Said → EasterDays → ℕ → Said
-with_easter rule days place =
-    record rule { easter = rule.easter ++ days ∷ []; easter_places = rule.easter_places ++ place ∷ [] }
+with_easter rule days place = record rule {
+  month_items = rule.month_items ++ month_item.Easter ∷ [];
+  easter = rule.easter ++ days ∷ [];
+  easter_places = rule.easter_places ++ place ∷ [];
+}
 
 abbrev pub with_leading : Said → Listed → ℕ → Said
 with_leading rule h place = record (with_holiday rule h place) { is_led = true }
@@ -110,11 +125,13 @@ with_every rule bytes place = record (with_text rule bytes) {
   every_place = or_place rule.every_place place;
 }
 
--- An item with this role goes on with a rule: its bytes and a space (32) and how many weekday selectors begin there, its holiday,
--- its range of days that moves, its days of Easter, or the place where it makes the rule unknown or remarks on it.
+-- An item with this role goes on with a rule: its bytes and a space (32) and how many weekday selectors begin there, or that one
+-- of month days does; its holiday, its range of days that moves, its days of Easter, or the place where it makes the rule unknown
+-- or remarks on it.
 abbrev pub with_item : List ℕ → Said → Role → Item → Said
 with_item text rule role.Kept item = with_text rule (stretch text item.from item.to ++ 32 ∷ [])
 with_item text rule (role.Weekdays count) item = with_weekdays rule (stretch text item.from item.to ++ 32 ∷ []) count
+with_item text rule role.MonthDay item = with_month_day rule (stretch text item.from item.to ++ 32 ∷ [])
 with_item text rule role.Year item = with_year rule (stretch text item.from item.to ++ 32 ∷ [])
 with_item text rule (role.Every place) item = with_every rule (every_text text item place ++ 32 ∷ []) place
 with_item text rule (role.Leading h) item = with_leading rule h item.from
@@ -165,12 +182,27 @@ holidays_in [] = 0
 holidays_in (true ∷ order) = suc (holidays_in order)
 holidays_in (false ∷ order) = holidays_in order
 
--- Each of the rules has a place for each of its holidays, and of its days of Easter; its order has as many holidays as it.
+-- how many ranges that move a list of month days has, and how often days of Easter
+abbrev pub moving_in : List MonthItem → ℕ
+moving_in [] = 0
+moving_in (month_item.Own ∷ items) = moving_in items
+moving_in (month_item.Moving ∷ items) = suc (moving_in items)
+moving_in (month_item.Easter ∷ items) = moving_in items
+
+abbrev pub easter_in : List MonthItem → ℕ
+easter_in [] = 0
+easter_in (month_item.Own ∷ items) = easter_in items
+easter_in (month_item.Moving ∷ items) = easter_in items
+easter_in (month_item.Easter ∷ items) = suc (easter_in items)
+
+-- Each of the rules has a place for each of its holidays, and of its days of Easter; its order has as many holidays as it, and
+-- the list of its month days as many ranges that move and days of Easter.
 abbrev pub HavePlaces : List Said → Type 0
 HavePlaces [] = ⊤
 HavePlaces (rule ∷ rules) =
     (length rule.places ≡ length rule.holidays) × (length rule.easter_places ≡ length rule.easter)
-    × (holidays_in rule.order ≡ length rule.holidays) × HavePlaces rules
+    × (holidays_in rule.order ≡ length rule.holidays) × (moving_in rule.month_items ≡ length rule.dates)
+    × (easter_in rule.month_items ≡ length rule.easter) × HavePlaces rules
 
 -- how many of a rule's own weekday selectors stand before the first holiday of its order
 abbrev pub before_holiday : List Bool → ℕ

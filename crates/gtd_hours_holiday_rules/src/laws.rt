@@ -9,9 +9,10 @@ ghost use Rattle.gtd_hours_holiday_rules.specs.declared.text.HolidayText.{Holida
 use gtd_hours_moving::laws::one_moving_front;
 use gtd_hours_tokens::laws::one_reading;
 
-/// A text has one checked text at most, of its length, one list of rules, with a place for each of their holidays, and all of
-/// these in the order of each rule, one way in which faults are told, and one list of rules that hold all day; and no byte then
-/// with which no token begins, nor a comment that is not whole.
+/// A text has one checked text at most, of its length, one list of rules, with a place for each of their holidays, all of these
+/// in the order of each rule, and all its ranges that move and days of Easter in the list of its month days; one way in which
+/// faults are told, and one list of rules that hold all day; and no byte then with which no token begins, nor a comment that is
+/// not whole.
 pub fn one_holiday_text()
     ensures checked { (text : List ℕ) (one other : HolidayText) → IsHolidayText text one → IsHolidayText text other
         → one.checked.items ≡ other.checked.items }

@@ -12,6 +12,8 @@ pub enum Role {
     Year,
     /// So many weekday selectors of the rule's own begin with it: it is in both.
     Weekdays(usize),
+    /// A selector of month days of the rule's own begins with it: it is in both.
+    MonthDay,
     /// Years without a last one, of which there are more than a domain holds: in the text of the rule they go on to 2799, and
     /// their step is 9 in the checked text.
     Every {

@@ -3,8 +3,9 @@
 ghost use Rattle.std.specs.Prelude.{◌≡◌};
 ghost use Rattle.gtd_hours_holiday_rules.specs.Roles.{begun_role, bracket_role, colon_role, comma_role, comment_role, dash_role};
 ghost use Rattle.gtd_hours_holiday_rules.specs.Roles.{dates_comma, dates_go_on, days_comma, easter_role, every_role, first_role};
-ghost use Rattle.gtd_hours_holiday_rules.specs.Roles.{holiday_role, joined_role, kept_if, number_role, remark_role, role_in};
-ghost use Rattle.gtd_hours_holiday_rules.specs.Roles.{role_of, separates, sign_role, takes_year, token_role, weekday_role};
+ghost use Rattle.gtd_hours_holiday_rules.specs.Roles.{holiday_role, joined_role, kept_if, month_role, number_role, remark_role};
+ghost use Rattle.gtd_hours_holiday_rules.specs.Roles.{role_in, role_of, separates, sign_role, takes_year, token_role};
+ghost use Rattle.gtd_hours_holiday_rules.specs.Roles.{weekday_role};
 
 use crate::behind::{Behind, Last, Position, is_commented, is_faulty};
 use crate::role::Role;
@@ -99,14 +100,18 @@ fn dates_go_on(last: Last, later: &[Item]) -> bool
     }
 }
 
-// A comma behind a list of month days, with months or dates or without.
+// A comma behind a list of month days, with months or dates or without: with it the next of these begins.
 fn dates_comma(beside: bool, last: Last, later: &[Item]) -> Role
     ensures { result ≡ dates_comma beside last later.now }
 {
     if begins_dates(later) {
         Role::Unwritten
     } else if dates_go_on(last, later) {
-        if beside { Role::Kept } else { Role::Unwritten }
+        if beside {
+            Role::MonthDay
+        } else {
+            Role::Unwritten
+        }
     } else {
         Role::Begins(Link::Also)
     }
@@ -263,12 +268,25 @@ fn colon_role(behind: Behind) -> Role
     }
 }
 
+// A month: the first of a rule's own month days begins with it.
+fn month_role(behind: Behind) -> Role
+    ensures { result ≡ month_role behind }
+{
+    match behind {
+        Behind::Front => Role::MonthDay,
+        Behind::Years => Role::MonthDay,
+        Behind::Moving { beside } => { if beside { Role::Kept } else { Role::MonthDay } }
+        _ => Role::Kept,
+    }
+}
+
 fn token_role(behind: Behind, last: Last, kind: TokenKind, later: &[Item]) -> Role
     ensures { result ≡ token_role behind last kind later.now }
 {
     match kind {
         TokenKind::Comma => comma_role(behind, last, later),
         TokenKind::Semicolon => Role::Begins(Link::Instead),
+        TokenKind::Month(_) => month_role(behind),
         TokenKind::Weekday(_) => weekday_role(behind, last, later),
         TokenKind::OpenBracket => bracket_role(Role::Weekdays(places(later)), behind),
         TokenKind::Plus => sign_role(behind, last),

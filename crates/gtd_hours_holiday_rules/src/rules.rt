@@ -3,12 +3,13 @@
 ghost use Rattle.std.specs.Prelude.{◌≡◌, ◌++◌, ◌∷◌, [], List, IfOk, OnOk, false, map, replicate};
 ghost use Rattle.gtd_hours_holiday_rules.specs.Rules.{all_rules, before_holiday, begun, ended, every_text, link_behind, or_place};
 ghost use Rattle.gtd_hours_holiday_rules.specs.Rules.{rules_of, said_by, with_date, with_easter, with_every, with_holiday};
-ghost use Rattle.gtd_hours_holiday_rules.specs.Rules.{with_item, with_text, with_weekdays, with_year};
+ghost use Rattle.gtd_hours_holiday_rules.specs.Rules.{with_item, with_month_day, with_text, with_weekdays, with_year};
 ghost use Rattle.gtd_hours_holiday_rules.specs.declared.parts.Part.{Part};
 
 use crate::parts::Part;
 use crate::role::Role;
 use gtd_hours::{Link, Selector};
+use gtd_hours_dated::MonthItem;
 use gtd_hours_days::{EasterDays, Listed};
 use gtd_hours_items::Item;
 use gtd_hours_moving::stretch;
@@ -32,6 +33,9 @@ pub struct HolidayRule {
     /// Of each of its holidays and of the weekday selectors of its text, from left to right, whether it is a holiday. Each place
     /// of a weekday in the month is a selector: `We[2,-1],PH` has two before its holiday.
     pub order: Vec<bool>,
+    /// What stands in the list of its month days, from left to right: the months and dates of its text, its ranges of days that
+    /// move, and its days of Easter.
+    pub month_items: Vec<MonthItem>,
     /// Its ranges of days that move, from left to right: they are beside the month days of its text.
     pub dates: Vec<Selector>,
     /// Its days of Easter, from left to right: they are month days, too.
@@ -68,6 +72,7 @@ fn begun(alloc: Global, link: Link) -> HolidayRule
         holidays: Vec::new(alloc),
         places: Vec::new(alloc),
         order: Vec::new(alloc),
+        month_items: Vec::new(alloc),
         dates: Vec::new(alloc),
         easter: Vec::new(alloc),
         easter_places: Vec::new(alloc),
@@ -101,6 +106,14 @@ fn push_weekdays(rule: &mut HolidayRule, bytes: &[u8], count: usize) -> Result<(
 {
     push_text(rule, bytes)?;
     push_own(&mut rule.order, count)?;
+    Ok(())
+}
+
+fn push_month_day(rule: &mut HolidayRule, bytes: &[u8]) -> Result<(), AllocError>
+    ensures { OnOk result (said_by rule.new ≡ with_month_day (said_by rule.old) (bytes.now ++ 32 ∷ [])) }
+{
+    push_text(rule, bytes)?;
+    rule.month_items.push(MonthItem::Own)?;
     Ok(())
 }
 
@@ -163,6 +176,7 @@ fn push_holiday(rule: &mut HolidayRule, holiday: Listed, place: usize) -> Result
 fn push_date(rule: &mut HolidayRule, days: Selector) -> Result<(), AllocError>
     ensures { OnOk result (said_by rule.new ≡ with_date (said_by rule.old) days) }
 {
+    rule.month_items.push(MonthItem::Moving)?;
     rule.dates.push(days)?;
     Ok(())
 }
@@ -170,6 +184,7 @@ fn push_date(rule: &mut HolidayRule, days: Selector) -> Result<(), AllocError>
 fn push_easter(rule: &mut HolidayRule, days: EasterDays, place: usize) -> Result<(), AllocError>
     ensures { OnOk result (said_by rule.new ≡ with_easter (said_by rule.old) days place) }
 {
+    rule.month_items.push(MonthItem::Easter)?;
     rule.easter.push(days)?;
     rule.easter_places.push(place)?;
     Ok(())
@@ -182,6 +197,7 @@ fn push_item(rule: &mut HolidayRule, text: &[u8], role: Role, item: Item) -> Res
     match role {
         Role::Kept => push_text(rule, stretch(text, item.from, item.to)),
         Role::Weekdays(count) => push_weekdays(rule, stretch(text, item.from, item.to), count),
+        Role::MonthDay => push_month_day(rule, stretch(text, item.from, item.to)),
         Role::Year => push_year(rule, stretch(text, item.from, item.to)),
         Role::Every { place } => push_every(rule, text, item, place),
         Role::Leading(holiday) => {

@@ -1,6 +1,7 @@
 -- A table need say nothing of Easter, and a rule with ranges that move or Easter has more month days.
-use Rattle.std.proofs.Common.{◌≡◌, ◌++◌, refl, subst, ℕ, zero, suc, ℤ, List, [], ◌∷◌, length, None, Some}
+use Rattle.std.proofs.Common.{◌≡◌, refl, subst, ℕ, zero, suc, ℤ, List, [], ◌∷◌, length, None, Some}
 use Rattle.gtd_hours.specs.declared.hours.Selector.{Selector}
+use Rattle.gtd_hours_dated.specs.declared.more.MonthItem.{MonthItem}
 use Rattle.gtd_hours_days.specs.Listed.{IsUncovered}
 use Rattle.gtd_hours_days.specs.declared.listed.EasterDays.{EasterDays}
 use Rattle.gtd_hours_days.specs.declared.listed.Listed.{Listed}
@@ -30,8 +31,9 @@ never_fault table years easter xs why found same e is =
     (subst (λ (l : List Listed). IsDaysFault table years l (fault.Uncovered found)) e
     (subst (λ (w : ListedFault). IsDaysFault table years xs w) same is))
 
-pub some_days : (dates : List Selector) (easter : List EasterDays) (days : List Selector)
-    → (length dates ≡ 0 → length easter ≡ 0 → ⊥) → more_days dates easter days ≡ Some (dates ++ days)
-some_days [] [] days some = absurd (some refl refl)
-some_days [] (h ∷ easter) days some = refl
-some_days (x ∷ dates) easter days some = refl
+pub some_days : (order : List MonthItem) (dates : List Selector) (easter : List EasterDays) (days : List Selector)
+    → (length dates ≡ 0 → length easter ≡ 0 → ⊥)
+    → more_days order dates easter days ≡ Some (record { order = order; dates = dates; easter = days })
+some_days order [] [] days some = absurd (some refl refl)
+some_days order [] (h ∷ easter) days some = refl
+some_days order (x ∷ dates) easter days some = refl

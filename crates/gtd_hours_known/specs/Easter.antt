@@ -1,9 +1,10 @@
 -- The hours of a rule's own text with the month days that are not in it: ranges that move, and days of Easter, which are known in
 -- some years alone; and with years that end with these.
-use Rattle.std.specs.Prelude.{◌≡◌, List, [], ◌∷◌, ◌++◌, Option, Some, None}
+use Rattle.std.specs.Prelude.{◌≡◌, List, [], ◌∷◌, Option, Some, None}
 use Rattle.gtd_hours.specs.declared.hours.Hours.{Hours}
 use Rattle.gtd_hours.specs.declared.hours.Selector.{Selector}
-use Rattle.gtd_hours_dated.specs.Dated.{IsDatedHours}
+use Rattle.gtd_hours_dated.specs.Dated.{IsDatedHours, More}
+use Rattle.gtd_hours_dated.specs.declared.more.MonthItem.{MonthItem}
 use Rattle.gtd_hours_days.specs.declared.listed.EasterDays.{EasterDays}
 use Rattle.gtd_hours_days.specs.declared.listed.Listed.{Listed}
 use Rattle.gtd_hours_days.specs.declared.listed.Listed.TheVariants.{Easter}
@@ -24,15 +25,15 @@ AreEasterDays known [] days = days ≡ []
 AreEasterDays known (x ∷ easter) days =
     (years : KnownYears) × (known.years ≡ Some years) × AreDaysIn [] years (listed_of (x ∷ easter)) days
 
--- ranges that move, and the days of Easter, if there is one of either
-abbrev pub more_days : List Selector → List EasterDays → List Selector → Option (List Selector)
-more_days [] [] days = None
-more_days [] (h ∷ easter) days = Some days
-more_days (x ∷ dates) easter days = Some ((x ∷ dates) ++ days)
+-- ranges that move, and the days of Easter, if there is one of either, and what stands in the list of month days
+abbrev pub more_days : List MonthItem → List Selector → List EasterDays → List Selector → Option More
+more_days order [] [] days = None
+more_days order [] (h ∷ easter) days = Some (record { order = order; dates = []; easter = days })
+more_days order (x ∷ dates) easter days = Some (record { order = order; dates = x ∷ dates; easter = days })
 
 -- the month days of a rule that are not in its own text, with these days of Easter
-abbrev pub month_days : HolidayRule → List Selector → Option (List Selector)
-month_days from days = more_days from.dates.items from.easter.items days
+abbrev pub month_days : HolidayRule → List Selector → Option More
+month_days from days = more_days from.month_items.items from.dates.items from.easter.items days
 
 -- The own text of a rule, with its other month days, stands for these hours, where years without a last one end with the known
 -- years.

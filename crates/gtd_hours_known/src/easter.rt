@@ -1,7 +1,7 @@
 //! The hours of a rule's own text with its other month days, ranges that move and Easter, and with years that end.
 
-ghost use Rattle.std.specs.Prelude.{◌≡◌, ◌++◌, [], IfErr, IfOk, None, Some};
-ghost use Rattle.gtd_hours_dated.specs.Dated.{IsDatedHours};
+ghost use Rattle.std.specs.Prelude.{◌≡◌, [], IfErr, IfOk, None, Some};
+ghost use Rattle.gtd_hours_dated.specs.Dated.{IsDatedHours, more_of};
 ghost use Rattle.gtd_hours_loose.specs.Reading.{IsStrict};
 ghost use Rattle.gtd_hours_known.specs.Easter.{AreEasterDays, IsOwnHours, listed_of, month_days};
 ghost use Rattle.gtd_hours_known.specs.Given.{rule_lacks};
@@ -13,7 +13,7 @@ use crate::rules::RulesStop;
 use crate::selectors::listed_selectors;
 use crate::until::hours_until;
 use gtd_hours::{Hours, Selector};
-use gtd_hours_dated::read_dated_hours;
+use gtd_hours_dated::{MoreDays, read_dated_hours};
 use gtd_hours_days::{EasterDays, Listed, ListedFault};
 use gtd_hours_holiday_rules::HolidayRule;
 use gtd_hours_holidays::{Holidays, KnownYears};
@@ -68,14 +68,22 @@ fn easter_days(alloc: Global, from: &HolidayRule, known: &Known) -> Result<Vec<S
     }
 }
 
-// The selectors of one list and of another.
-fn both(alloc: Global, one: &[Selector], other: &[Selector]) -> Result<Vec<Selector>, AllocError>
-    ensures { IfOk result (λ all. all.items ≡ one.now ++ other.now) }
+// The other month days of a rule, of which these are the days of Easter.
+fn more_days(
+    alloc: Global,
+    from: &HolidayRule,
+    easter: Vec<Selector>,
+) -> Result<MoreDays, AllocError>
+    ensures { IfOk result (λ more. more_of more
+        ≡ record { order = from.now.month_items.items; dates = from.now.dates.items; easter = easter.items }) }
 {
-    let mut all = Vec::new(alloc);
-    all.extend_from_slice(one)?;
-    all.extend_from_slice(other)?;
-    Ok(all)
+    let order = Vec::from_slice(alloc, from.month_items.as_slice())?;
+    let dates = Vec::from_slice(alloc, from.dates.as_slice())?;
+    Ok(MoreDays {
+        order,
+        dates,
+        easter,
+    })
 }
 
 // The hours that a text of plain hours stands for.
@@ -94,12 +102,12 @@ fn plain_hours(alloc: Global, text: &[u8]) -> Result<Hours, RulesStop>
 }
 
 // The hours that it stands for with more month days.
-fn dated_hours(alloc: Global, text: &[u8], dates: &[Selector]) -> Result<Hours, RulesStop>
+fn dated_hours(alloc: Global, text: &[u8], more: &MoreDays) -> Result<Hours, RulesStop>
     requires { IsStrict text.now }
-    ensures hours { IfOk result (λ hours. IsDatedHours text.now (Some dates.now) hours) }
+    ensures hours { IfOk result (λ hours. IsDatedHours text.now (Some (more_of more.now)) hours) }
     ensures stop { IfErr result (λ why. why ≡ stop.NoMemory) }
 {
-    match read_dated_hours(alloc, text, dates) {
+    match read_dated_hours(alloc, text, more) {
         Ok(hours) => Ok(hours),
         Err(why) => match why {
             HoursTextFault::NoMemory => Err(RulesStop::NoMemory),
@@ -109,16 +117,16 @@ fn dated_hours(alloc: Global, text: &[u8], dates: &[Selector]) -> Result<Hours, 
 }
 
 // The hours that the own text of a rule stands for, with its other month days, of which these are the days of Easter.
-fn hours_with(alloc: Global, from: &HolidayRule, easter: &[Selector]) -> Result<Hours, RulesStop>
+fn hours_with(alloc: Global, from: &HolidayRule, easter: Vec<Selector>) -> Result<Hours, RulesStop>
     requires { IsStrict from.now.text.items }
-    ensures hours { IfOk result (λ hours. IsDatedHours from.now.text.items (month_days from.now easter.now) hours) }
+    ensures hours { IfOk result (λ hours. IsDatedHours from.now.text.items (month_days from.now easter.items) hours) }
     ensures stop { IfErr result (λ why. why ≡ stop.NoMemory) }
 {
     if from.dates.is_empty() && from.easter.is_empty() {
         return plain_hours(alloc, from.text.as_slice());
     }
-    let dates = both(alloc, from.dates.as_slice(), easter)?;
-    dated_hours(alloc, from.text.as_slice(), dates.as_slice())
+    let more = more_days(alloc, from, easter)?;
+    dated_hours(alloc, from.text.as_slice(), &more)
 }
 
 /// The hours that the own text of a rule stands for, with its other month days, and where its years end with the known ones.
@@ -133,7 +141,7 @@ pub(crate) fn own_hours(
     ensures stop { IfErr result (λ why. why ≡ stop.NoMemory) }
 {
     let easter = easter_days(alloc, from, known)?;
-    let dated = hours_with(alloc, from, easter.as_slice())?;
+    let dated = hours_with(alloc, from, easter)?;
     let hours = hours_until(alloc, from, known, dated)?;
     Ok(hours)
 }

@@ -16,7 +16,7 @@ use Rattle.gtd_hours_moments.specs.declared.moment.TimeForm.{TimeForm}
 use Rattle.gtd_hours_text.specs.Standing.{StandsFor}
 use Rattle.gtd_hours_text.specs.facts.OneMeaning.{same_rules}
 use Rattle.gtd_hours_text.specs.facts.SameRules.{SameRules}
-use Rattle.gtd_hours_mended.specs.Days.{with_easter}
+use Rattle.gtd_hours_mended.specs.Days.{with_month_days}
 use Rattle.gtd_hours_mended.specs.Joining.{is_nothing, spaced}
 use Rattle.gtd_hours_mended.specs.Making.{AreMade, IsMade, comment_in, first_comment, times_in}
 use Rattle.gtd_hours_mended.specs.Rules.{behind_years, closes, days_by, days_text, first_closes, first_kinds, first_times}
@@ -39,6 +39,7 @@ pub record AreAlike (one other : MendedRule) : Type 0 where
   pub holidays : one.holidays.items ≡ other.holidays.items
   pub order : one.order.items ≡ other.order.items
   pub every : one.every.items ≡ other.every.items
+  pub month_items : one.month_items.items ≡ other.month_items.items
   pub dates : one.dates.items ≡ other.dates.items
   pub easter : one.easter.items ≡ other.easter.items
   pub forms : one.forms.items ≡ other.forms.items
@@ -80,7 +81,8 @@ class_same c x y s = of_class c (kinds_of x) (kinds_of y) s.kinds
 -- month days of rules that are alike are written the same
 month_days_same : (x y : MendedRule) → AreAlike x y → month_days_text x ≡ month_days_text y
 month_days_same x y s =
-    let own = class_same class.MonthDays x y s in λ i. with_easter (kind_text false (own i ++ s.dates i)) (s.easter i)
+    let own = class_same class.MonthDays x y s in
+    λ i. with_month_days [] (s.month_items i) (own i) (s.dates i) (s.easter i)
 
 -- and so are weeks
 weeks_same : (x y : MendedRule) → AreAlike x y → weeks_text x ≡ weeks_text y
@@ -235,6 +237,7 @@ made_same comment x y left a b e p q =
       holidays = p.holidays ∙ ap (λ (s : Said). s.holidays) e ∙ sym q.holidays;
       order = p.order ∙ ap (λ (s : Said). s.order) e ∙ sym q.order;
       every = p.every ∙ ap (λ (s : Said). s.every) e ∙ sym q.every;
+      month_items = p.month_items ∙ ap (λ (s : Said). s.month_items) e ∙ sym q.month_items;
       dates = p.dates ∙ ap (λ (s : Said). s.dates) e ∙ sym q.dates;
       easter = p.easter ∙ ap (λ (s : Said). s.easter) e ∙ sym q.easter;
       forms = p.times

@@ -3,6 +3,8 @@ use Rattle.std.specs.Prelude.{ℕ, ◌++◌, Bool, false, List, [], ◌∷◌, c
 use Rattle.std.specs.Int.{is_negative}
 use Rattle.gtd_hours.specs.Written.{end_text, kind_text, offset_text}
 use Rattle.gtd_hours.specs.declared.hours.Selector.{Selector}
+use Rattle.gtd_hours_dated.specs.declared.more.MonthItem.{MonthItem}
+use Rattle.gtd_hours_dated.specs.declared.more.MonthItem.TheVariants as item
 use Rattle.gtd_hours_days.specs.declared.easter_range.EasterRange.{EasterRange}
 use Rattle.gtd_hours_days.specs.declared.listed.EasterDays.{EasterDays}
 use Rattle.gtd_hours_days.specs.declared.listed.EasterDays.TheVariants as easter
@@ -43,6 +45,21 @@ abbrev pub with_easter : List ℕ → List EasterDays → List ℕ
 with_easter text [] = text
 with_easter text (x ∷ xs) = with_easter (listed text (easter_text x)) xs
 
+-- A list with these selectors of plain hours behind it.
+abbrev pub with_selectors : List ℕ → List Selector → List ℕ
+with_selectors text xs = listed text (kind_text false xs)
+
+-- A list with these month days behind it, in this order: those of a rule's own text, its ranges that move, and its days of
+-- Easter.
+abbrev pub with_month_days : List ℕ → List MonthItem → List Selector → List Selector → List EasterDays → List ℕ
+with_month_days text [] own dates easter = with_easter (with_selectors (with_selectors text own) dates) easter
+with_month_days text (item.Own ∷ items) own dates easter =
+    with_month_days (with_selectors text (take 1 own)) items (drop 1 own) dates easter
+with_month_days text (item.Moving ∷ items) own dates easter =
+    with_month_days (with_selectors text (take 1 dates)) items own (drop 1 dates) easter
+with_month_days text (item.Easter ∷ items) own dates easter =
+    with_month_days (with_easter text (take 1 easter)) items own dates (drop 1 easter)
+
 -- A list with these holidays behind it.
 abbrev pub with_holidays : List ℕ → List Listed → List ℕ
 with_holidays text [] = text
@@ -51,7 +68,7 @@ with_holidays text (x ∷ xs) = with_holidays (listed text (holiday_text x)) xs
 -- A list with these weekdays and holidays behind it, in this order: each holiday behind the weekdays that stand before it, and
 -- the weekdays behind the last one.
 abbrev pub with_days : List ℕ → List Bool → List Selector → List Listed → List ℕ
-with_days text order weekdays [] = listed text (kind_text false weekdays)
+with_days text order weekdays [] = with_selectors text weekdays
 with_days text order weekdays (x ∷ xs) =
-    with_days (listed (listed text (kind_text false (take (before_holiday order) weekdays))) (holiday_text x))
+    with_days (listed (with_selectors text (take (before_holiday order) weekdays)) (holiday_text x))
     (drop 1 (drop (before_holiday order) order)) (drop (before_holiday order) weekdays) xs

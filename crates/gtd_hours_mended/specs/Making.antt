@@ -36,6 +36,7 @@ pub record IsMade (comment : List ℕ) (from : HolidayRule) (left : List TimeFor
   pub holidays : rule.holidays.items ≡ from.holidays.items
   pub order : rule.order.items ≡ from.order.items
   pub every : rule.every.items ≡ from.every.items
+  pub month_items : rule.month_items.items ≡ from.month_items.items
   pub dates : rule.dates.items ≡ from.dates.items
   pub easter : rule.easter.items ≡ from.easter.items
   pub own : StandsFor from.text.items rule.own

@@ -10,7 +10,7 @@ use Rattle.gtd_hours.specs.declared.hours.TimeRange.{TimeRange}
 use Rattle.gtd_hours_days.specs.declared.listed.EasterDays.{EasterDays}
 use Rattle.gtd_hours_days.specs.declared.listed.Listed.{Listed}
 use Rattle.gtd_hours_moments.specs.declared.moment.TimeForm.{TimeForm}
-use Rattle.gtd_hours_mended.specs.Days.{with_days, with_easter, with_holidays}
+use Rattle.gtd_hours_mended.specs.Days.{with_days, with_holidays, with_month_days}
 use Rattle.gtd_hours_mended.specs.Joining.{is_nothing, spaced}
 use Rattle.gtd_hours_mended.specs.Selecting.{selectors_of}
 use Rattle.gtd_hours_mended.specs.Times.{with_forms}
@@ -41,10 +41,10 @@ kinds_of rule = first_kinds rule.own.rules.items
 
 -- ---- days
 
--- its month days: those of its own text, its ranges that move, and its days of Easter
+-- its month days: those of its own text, its ranges that move, and its days of Easter, as they stand in its list
 abbrev pub month_days_text : MendedRule → List ℕ
 month_days_text rule =
-    with_easter (kind_text false (selectors_of class.MonthDays (kinds_of rule) ++ rule.dates.items)) rule.easter.items
+    with_month_days [] rule.month_items.items (selectors_of class.MonthDays (kinds_of rule)) rule.dates.items rule.easter.items
 
 abbrev pub weeks_text : MendedRule → List ℕ
 weeks_text rule = kind_text false (selectors_of class.Weeks (kinds_of rule))

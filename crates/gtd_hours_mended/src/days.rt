@@ -3,13 +3,16 @@
 ghost use Rattle.std.specs.Prelude.{◌≡◌, ◌++◌, ◌∷◌, [], false, IfOk, OnOk};
 ghost use Rattle.gtd_hours.specs.Written.{end_text, kind_text, offset_text};
 ghost use Rattle.gtd_hours_mended.specs.Days.{days_text, easter_day_text, easter_range_text, easter_text, holiday_text};
-ghost use Rattle.gtd_hours_mended.specs.Days.{with_days, with_easter, with_holidays, yearly_text};
+ghost use Rattle.gtd_hours_mended.specs.Days.{with_days, with_easter, with_holidays, with_month_days, with_selectors};
+ghost use Rattle.gtd_hours_mended.specs.Days.{yearly_text};
 ghost use Rattle.gtd_hours_mended.specs.Joining.{listed};
 
 use crate::copies::{behind, first_of};
 use crate::joining::push_joined;
+use crate::rule::MendedRule;
 use crate::selectors::text_of;
 use gtd_hours::{Dates, End, Months, Selector};
+use gtd_hours_dated::MonthItem;
 use gtd_hours_days::{EasterDays, EasterRange, Listed, Offset, YearlyDay};
 use gtd_hours_holiday_rules::before_holiday;
 use itoa::Buffer;
@@ -125,8 +128,8 @@ fn holiday_text(alloc: Global, holiday: Listed) -> Result<Vec<u8>, AllocError>
     Ok(text)
 }
 
-/// Puts days of Easter behind a list.
-pub(crate) fn push_easter_list(
+// Puts days of Easter behind a list.
+fn push_easter_list(
     alloc: Global,
     out: &mut Vec<u8>,
     easter: &[EasterDays],
@@ -166,12 +169,52 @@ pub(crate) fn push_holidays(
     Ok(())
 }
 
-// Puts weekdays behind a list.
-fn push_weekdays(alloc: Global, out: &mut Vec<u8>, weekdays: &[Selector]) -> Result<(), AllocError>
-    ensures { OnOk result (out.new.items ≡ listed out.old.items (kind_text false weekdays.now)) }
+// Puts selectors of plain hours behind a list.
+fn push_selectors(
+    alloc: Global,
+    out: &mut Vec<u8>,
+    selectors: &[Selector],
+) -> Result<(), AllocError>
+    ensures { OnOk result (out.new.items ≡ with_selectors out.old.items selectors.now) }
 {
-    let text = text_of(alloc, weekdays)?;
+    let text = text_of(alloc, selectors)?;
     push_joined(out, b',', text.as_slice())
+}
+
+/// Puts the month days of a rule behind a list, in their order. Those of its own text are given.
+pub(crate) fn push_month_days(
+    alloc: Global,
+    out: &mut Vec<u8>,
+    own: &[Selector],
+    rule: &MendedRule,
+) -> Result<(), AllocError>
+    ensures { OnOk result (out.new.items
+        ≡ with_month_days out.old.items rule.now.month_items.items own.now rule.now.dates.items rule.now.easter.items) }
+{
+    let mut own = own;
+    let mut dates = rule.dates.as_slice();
+    let mut easter = rule.easter.as_slice();
+    let mut rest = rule.month_items.as_slice();
+    while let Some((item, later)) = rest.split_first() {
+        match item {
+            MonthItem::Own => {
+                push_selectors(alloc, out, first_of(own, 1))?;
+                own = behind(own, 1);
+            }
+            MonthItem::Moving => {
+                push_selectors(alloc, out, first_of(dates, 1))?;
+                dates = behind(dates, 1);
+            }
+            MonthItem::Easter => {
+                push_easter_list(alloc, out, first_of(easter, 1))?;
+                easter = behind(easter, 1);
+            }
+        }
+        rest = later;
+    }
+    push_selectors(alloc, out, own)?;
+    push_selectors(alloc, out, dates)?;
+    push_easter_list(alloc, out, easter)
 }
 
 /// Puts weekdays and holidays behind a list, in this order.
@@ -189,11 +232,11 @@ pub(crate) fn push_in_order(
     let mut rest = holidays;
     while let Some((holiday, more)) = rest.split_first() {
         let place = before_holiday(order);
-        push_weekdays(alloc, out, first_of(weekdays, place))?;
+        push_selectors(alloc, out, first_of(weekdays, place))?;
         push_one(alloc, out, *holiday)?;
         weekdays = behind(weekdays, place);
         order = behind(behind(order, place), 1);
         rest = more;
     }
-    push_weekdays(alloc, out, weekdays)
+    push_selectors(alloc, out, weekdays)
 }

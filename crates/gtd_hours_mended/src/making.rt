@@ -89,6 +89,7 @@ fn rule_with(
 {
     let own_forms = copy_of(alloc, first_of(forms, times_in(&own)))?;
     let every = copy_of(alloc, from.every.as_slice())?;
+    let month_items = copy_of(alloc, from.month_items.as_slice())?;
     let dates = copy_of(alloc, from.dates.as_slice())?;
     let easter = copy_of(alloc, from.easter.as_slice())?;
     let holidays = copy_of(alloc, from.holidays.as_slice())?;
@@ -98,6 +99,7 @@ fn rule_with(
         link: from.link,
         own,
         every,
+        month_items,
         dates,
         easter,
         holidays,

@@ -1,6 +1,7 @@
 //! A rule of a text, with all that is written for it.
 
 use gtd_hours::{Hours, Link, Selector};
+use gtd_hours_dated::MonthItem;
 use gtd_hours_days::{EasterDays, Listed};
 use gtd_hours_moments::TimeForm;
 
@@ -13,6 +14,8 @@ pub struct MendedRule {
     pub own: Hours,
     /// Of each of its years, whether it has no last one.
     pub every: Vec<bool>,
+    /// What stands in the list of its month days, from left to right.
+    pub month_items: Vec<MonthItem>,
     /// Its ranges of days that move.
     pub dates: Vec<Selector>,
     /// Its days of Easter.

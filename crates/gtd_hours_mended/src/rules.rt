@@ -12,7 +12,7 @@ ghost use Rattle.gtd_hours_mended.specs.Times.{with_forms};
 ghost use Rattle.gtd_hours_mended.specs.declared.classes.Class.TheVariants as class;
 
 use crate::classes::{Class, selectors_of};
-use crate::days::{push_easter_list, push_holidays, push_in_order};
+use crate::days::{push_holidays, push_in_order, push_month_days};
 use crate::joining::push_joined;
 use crate::rule::MendedRule;
 use crate::selectors::text_of;
@@ -73,10 +73,9 @@ fn kinds_of(rule: &MendedRule) -> &[Kind]
 fn month_days_text(alloc: Global, rule: &MendedRule) -> Result<Vec<u8>, AllocError>
     ensures { IfOk result (λ text. text.items ≡ month_days_text rule.now) }
 {
-    let mut selectors = selectors_of(alloc, Class::MonthDays, kinds_of(rule))?;
-    selectors.extend_from_slice(rule.dates.as_slice())?;
-    let mut text = text_of(alloc, selectors.as_slice())?;
-    push_easter_list(alloc, &mut text, rule.easter.as_slice())?;
+    let own = selectors_of(alloc, Class::MonthDays, kinds_of(rule))?;
+    let mut text = Vec::new(alloc);
+    push_month_days(alloc, &mut text, own.as_slice(), rule)?;
     Ok(text)
 }
 

@@ -84,7 +84,7 @@ own_of known x y hours same p = record {
   easter = p.easter;
   are = subst (λ (s : Said). AreEasterDays known s.easter p.easter) same p.are;
   dated = p.dated;
-  stands = subst (λ (s : Said). IsDatedHours s.text (more_days s.dates s.easter p.easter) p.dated) same p.stands;
+  stands = subst (λ (s : Said). IsDatedHours s.text (more_days s.month_items s.dates s.easter p.easter) p.dated) same p.stands;
   until = subst (λ (s : Said). AreHoursUntil known.years s.every_place s.every p.dated hours) same p.until;
 }
 

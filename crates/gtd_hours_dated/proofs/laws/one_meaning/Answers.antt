@@ -4,10 +4,10 @@ use Rattle.gtd_hours_dated.specs.facts.SameDated.{dated_rules}
 use Rattle.gtd_hours_dated.proofs.laws.one_meaning.Goals as goal
 
 pub returns-clause-open : goal.returns-clause-open
-returns-clause-open c = λ text dates one other p q. same_opening one other (dated_rules text dates one other p q)
+returns-clause-open c = λ text more one other p q. same_opening one other (dated_rules text more one other p q)
 
 pub returns-clause-cost : goal.returns-clause-cost
-returns-clause-cost c = λ text dates one other p q. same_cost one other (dated_rules text dates one other p q)
+returns-clause-cost c = λ text more one other p q. same_cost one other (dated_rules text more one other p q)
 
 pub returns-clause-written : goal.returns-clause-written
-returns-clause-written c = λ text dates one other p q. same_text one other (dated_rules text dates one other p q)
+returns-clause-written c = λ text more one other p q. same_text one other (dated_rules text more one other p q)

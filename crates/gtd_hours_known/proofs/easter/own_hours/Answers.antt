@@ -6,6 +6,6 @@ returns-clause-hours c = record {
   easter = c.in_ok-easter.easter.items;
   are = c.in_ok-easter.ensures.days;
   dated = c.in_ok-dated.dated;
-  stands = rw c.as_slice.ensures.value at c.in_ok-dated.ensures.hours;
+  stands = c.in_ok-dated.ensures.hours;
   until = c.in_ok-hours.ensures.hours;
 }
