@@ -1,5 +1,6 @@
 """The inputs that cost `gtd` and `gtdesk` most, each for a loop of the programs: commands, and files made in a temporary
 folder."""
+import datetime
 import os
 from typing import NamedTuple
 
@@ -383,11 +384,31 @@ def tags_of_ways(folder):
     yield case("65,536 faulty values", few, (f"{n},access:conditional,no @ (8:00\n" for n in range(MOST_ROWS)))
 
 
+def hours_rows(folder):
+    """Files of opening hours with public holidays, whose days are looked for anew for each row."""
+    rows = MOST_ROWS - 1
+    texts = folder.file("holiday_rows", "element,direction,vehicles,hours\n"
+                        + "".join(f"{n},both,0,Mo-Fr 08:00-18:00; PH off\n" for n in range(rows)))
+    first, days = datetime.date(2020, 1, 1), 4_018
+    each_day = [f"{first + datetime.timedelta(day)},,PH-covered,\n" for day in range(days)]
+
+    def case(name, years, days, table):
+        head = "first,last,kind,name\n"
+        path = folder.file(name.replace(" ", "_").replace(",", ""), head + "".join(table))
+        words = ["records", "--holidays", path, "--years", years, texts]
+        return desk(f"{rows:,} rows, {name}", words, rows * days, "days of the years")
+
+    yield case("two years covered by a row", "2025-2026", 730,
+               ["2025-01-01,2026-12-31,PH-covered,\n", *(f"{year}-12-25,,PH,\n" for year in (2025, 2026))])
+    yield case("eleven years covered day by day, the last first", "2020-2030", days,
+               [*reversed(each_day), *(f"{year}-12-25,,PH,\n" for year in range(2020, 2031))])
+
+
 def cases(path):
     """Every case. A file is made when its case is asked for."""
     folder = Folder(path)
     yield from domains()
     yield from words()
     for group in (one_row, one_element, many_elements, states, pictures, rows_in_order, one_field, vehicle_lists,
-                  tags_of_ways):
+                  tags_of_ways, hours_rows):
         yield from group(folder)
