@@ -9,7 +9,7 @@ use Rattle.gtd_hours_known.proofs.easter.days_in.Goals as goal
 pub unreachable-requires : goal.unreachable-requires
 unreachable-requires c =
     let same : c.in-Err.why ≡ fault.Uncovered c.in-Uncovered.field-0 = search rules in
-    never_fault (record { rows = c.new.result }) c.args.years c.args.easter.now c.as_slice.result.now c.in-Err.why
+    never_fault c.none-table.result c.args.years c.args.easter.now c.as_slice.result.now c.in-Err.why
     c.in-Uncovered.field-0 same
     (c.as_slice.ensures.value ∙ c.in_ok-listed.ensures) c.in-Err.ensures.fault
 
@@ -17,4 +17,4 @@ pub returns-in-Ok-clause-days : goal.returns-in-Ok-clause-days
 returns-in-Ok-clause-days c =
     subst (λ (listed : List Listed). AreDaysIn [] c.args.years listed c.in-Ok.days.items)
     (c.as_slice.ensures.value ∙ c.in_ok-listed.ensures)
-    (rw c.new.ensures.items at c.in-Ok.ensures.days)
+    (rw c.none-table.ensures.none at c.in-Ok.ensures.days)
