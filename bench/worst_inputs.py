@@ -366,6 +366,8 @@ def tags_of_ways(folder):
         return desk(name, ["conditions", folder.file(name.replace(" ", "_").replace(",", ""), head + "".join(rows)), means])
 
     yield case("65,536 elements", few, (f"{n},access:conditional,{night}\n" for n in range(MOST_ROWS)))
+    forward = (f"{n},access:forward:conditional,{night}\n" for n in range(MOST_ROWS))
+    yield case("65,536 elements, each in one direction", few, forward)
     yield case("65,536 elements by 4,000 modes", many, (f"{n},{last},{night}\n" for n in range(MOST_ROWS)))
     keys = [name + side for name in names for side in ("", ":forward", ":backward")]
     yield case("an element of 12,000 keys", many, (f"1,{key},no\n" for key in keys))
@@ -377,6 +379,10 @@ def tags_of_ways(folder):
     each = "".join(f"no @ ({name});" for name, _ in kinds)
     value = each * ((MOST_BYTES - 100) // len(each))
     yield case("a value of 16 MiB that tells 99 types apart", apart, ["1,access:conditional,", value, "\n"])
+    front = "".join(f"no @ ({name} AND Mo 10:00-11:00);" for name, _ in kinds[1:])
+    last = f"no @ ({kinds[0][0]});"
+    value = front + last * ((MOST_BYTES - 100 - len(front)) // len(last))
+    yield case("a value of 16 MiB whose first parts have hours for 98 types", apart, ["1,access:conditional,", value, "\n"])
     terms = (MOST_BYTES - 100) // len("hazmat AND ")
     yield case("a condition of 16 MiB", few, ["1,access:conditional,no @ (", "hazmat AND " * terms, "hazmat)\n"])
     yield case("a value of 16 MiB of parentheses", few, ["1,access:conditional,no @ ", "(" * (MOST_BYTES - 200), "\n"])

@@ -86,8 +86,8 @@ fn are_same_vehicles(one: &Vehicles, two: &Vehicles) -> bool
 }
 
 // Whether the domains of two records are the same tree.
-fn are_same_domains(one: &Option<Domain>, two: &Option<Domain>) -> bool
-    ensures same { IsTrue result → option_map domain_tree one.now ≡ option_map domain_tree two.now }
+fn are_same_domains(one: Option<&Domain>, two: Option<&Domain>) -> bool
+    ensures same { IsTrue result → option_map (λ d. domain_tree d.now) one.entry ≡ option_map (λ d. domain_tree d.now) two.entry }
 {
     match one {
         None => two.is_none(),
@@ -105,7 +105,7 @@ fn is_same(one: &Record, two: &Record) -> bool
     one.element == two.element
         && one.closed == two.closed
         && are_same_vehicles(&one.vehicles, &two.vehicles)
-        && are_same_domains(&one.domain, &two.domain)
+        && are_same_domains(one.domain(), two.domain())
 }
 
 // The records of a file, in the order of its rows.

@@ -108,24 +108,46 @@ need_too_many means subject tags positive negative forward backward (inr many) =
 
 -- the rows of both directions' steps, if there are some
 pub rows_made : {V : Type 0} (r : Result V RowsFault) (items : V → List Row) (means : List MeansRow) (subject : Subject)
-    (tags : List Tag) (first second positive negative : List Step) → first ≡ positive → second ≡ negative
+    (tags : List Tag) (positive negative : List Step)
     → AreStepsBy means subject tags Positive positive → AreStepsBy means subject tags Negative negative
-    → IfOk r (λ found. AreRows first second (items found))
+    → IfOk r (λ found. AreRows positive negative (items found))
     → IfOk r (λ found. (direction : Direction) (t : ℕ) (s : ℤ) → IsVehicle t
-    → IsClosedByRow (items found) direction t s ↔ IsClosed (steps_in first second direction) t s)
+    → IsClosedByRow (items found) direction t s ↔ IsClosed (steps_in positive negative direction) t s)
     → ((t : ℕ) (s : ℤ) → IsVehicle t → IsClosed positive t s ↔ IsClosedByTags means subject tags Positive t s)
     → ((t : ℕ) (s : ℤ) → IsVehicle t → IsClosed negative t s ↔ IsClosedByTags means subject tags Negative t s)
     → IfOk r (λ found. AreRowsBy means subject tags (items found))
-rows_made (Ok found) items means subject tags first second positive negative one other forward backward are by ahead back =
+rows_made (Ok found) items means subject tags positive negative forward backward are by ahead back =
     record {
       positive = positive;
       negative = negative;
       forward = forward;
       backward = backward;
-      are = rw (← one, ← other) are;
-      closes = rows_close means subject tags positive negative (items found) (rw (← one, ← other) by) ahead back;
+      are = are;
+      closes = rows_close means subject tags positive negative (items found) by ahead back;
     }
-rows_made (Err why) items means subject tags first second positive negative one other forward backward are by ahead back = tt
+rows_made (Err why) items means subject tags positive negative forward backward are by ahead back = tt
+
+-- and those of steps that are the same in both
+steps_of_both : (steps : List Step) (rows : List Row) → ((direction : Direction) (t : ℕ) (s : ℤ) → IsVehicle t
+    → IsClosedByRow rows direction t s ↔ IsClosed steps t s)
+    → (direction : Direction) (t : ℕ) (s : ℤ) → IsVehicle t
+    → IsClosedByRow rows direction t s ↔ IsClosed (steps_in steps steps direction) t s
+steps_of_both steps rows by Positive t s v = by Positive t s v
+steps_of_both steps rows by Negative t s v = by Negative t s v
+
+pub both_made : {V : Type 0} (r : Result V RowsFault) (items : V → List Row) (means : List MeansRow) (subject : Subject)
+    (tags : List Tag) (steps : List Step)
+    → AreStepsBy means subject tags Positive steps → AreStepsBy means subject tags Negative steps
+    → IfOk r (λ found. AreRows steps steps (items found))
+    → IfOk r (λ found. (direction : Direction) (t : ℕ) (s : ℤ) → IsVehicle t
+    → IsClosedByRow (items found) direction t s ↔ IsClosed steps t s)
+    → ((t : ℕ) (s : ℤ) → IsVehicle t → IsClosed steps t s ↔ IsClosedByTags means subject tags Positive t s)
+    → ((t : ℕ) (s : ℤ) → IsClosedByTags means subject tags Positive t s ↔ IsClosedByTags means subject tags Negative t s)
+    → IfOk r (λ found. AreRowsBy means subject tags (items found))
+both_made (Ok found) items means subject tags steps forward backward are by ahead same =
+    rows_made (Ok found) items means subject tags steps steps forward backward are (steps_of_both steps (items found) by) ahead
+    (λ t s v. ((λ x. (same t s).0 ((ahead t s v).0 x)), (λ x. (ahead t s v).1 ((same t s).1 x))))
+both_made (Err why) items means subject tags steps forward backward are by ahead same = tt
 
 -- ---- what an element adds
 

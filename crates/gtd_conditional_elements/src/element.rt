@@ -1,13 +1,16 @@
 //! The rows of an element.
 
-ghost use Rattle.std.specs.Prelude.{◌≡◌, ◌++◌, Err, IfOk, OnOk};
+ghost use Rattle.std.specs.Prelude.{◌≡◌, ◌↔◌, ◌++◌, ℕ, ℤ, List, Err, IfOk, OnOk};
+ghost use Rattle.gtd_records.specs.declared.direction.Direction.TheVariants.{Positive, Negative};
+ghost use Rattle.gtd_conditional_rows.specs.declared.step.Step.{Step};
+ghost use Rattle.gtd_conditional_steps.specs.Closing.{IsClosedByTags};
 ghost use Rattle.gtd_conditional_elements.specs.Elements as spec;
-ghost use Rattle.gtd_conditional_elements.specs.Elements.{AreElementRows, AreRowsBy, NeedTooMany, NeedTooManyBy};
+ghost use Rattle.gtd_conditional_elements.specs.Elements.{AreElementRows, AreRowsBy, AreStepsBy, NeedTooMany, NeedTooManyBy};
 
 use gtd_conditional_means::Means;
 use gtd_conditional_parts::Subject;
-use gtd_conditional_rows::{Row, RowsFault, rows_of};
-use gtd_conditional_steps::{StepsFault, Tag, steps_of};
+use gtd_conditional_rows::{Row, RowsFault, rows_of, rows_of_both};
+use gtd_conditional_steps::{StepsFault, Tag, are_two_way, steps_of};
 use gtd_records::Direction;
 use std::alloc::{AllocError, Global};
 
@@ -21,8 +24,28 @@ fn without_steps(why: StepsFault) -> RowsFault
     }
 }
 
-// The rows of a subject.
-fn rows_by(
+// The rows of a subject, where the steps of the positive direction are those of the negative one.
+fn rows_by_both(
+    alloc: Global,
+    means: &Means,
+    subject: Subject,
+    tags: &[Tag],
+) -> Result<Vec<Row>, RowsFault>
+    requires steps { (steps : List Step) → AreStepsBy means.now.rows.items subject tags.now Positive steps
+        → AreStepsBy means.now.rows.items subject tags.now Negative steps }
+    requires closed { (t : ℕ) (s : ℤ) → IsClosedByTags means.now.rows.items subject tags.now Positive t s
+        ↔ IsClosedByTags means.now.rows.items subject tags.now Negative t s }
+    ensures rows { IfOk result (λ rows. AreRowsBy means.now.rows.items subject tags.now rows.items) }
+    ensures too_many { result ≡ Err RowsFault.TooMany → NeedTooManyBy means.now.rows.items subject tags.now }
+{
+    match steps_of(alloc, means, subject, tags, Direction::Positive) {
+        Ok(steps) => rows_of_both(alloc, steps),
+        Err(why) => Err(without_steps(why)),
+    }
+}
+
+// The rows of a subject, from the steps of each direction.
+fn rows_by_each(
     alloc: Global,
     means: &Means,
     subject: Subject,
@@ -39,7 +62,24 @@ fn rows_by(
         Ok(steps) => steps,
         Err(why) => return Err(without_steps(why)),
     };
-    rows_of(alloc, positive.as_slice(), negative.as_slice())
+    rows_of(alloc, positive, negative)
+}
+
+// The rows of a subject.
+fn rows_by(
+    alloc: Global,
+    means: &Means,
+    subject: Subject,
+    tags: &[Tag],
+) -> Result<Vec<Row>, RowsFault>
+    ensures rows { IfOk result (λ rows. AreRowsBy means.now.rows.items subject tags.now rows.items) }
+    ensures too_many { result ≡ Err RowsFault.TooMany → NeedTooManyBy means.now.rows.items subject tags.now }
+{
+    if are_two_way(tags) {
+        rows_by_both(alloc, means, subject, tags)
+    } else {
+        rows_by_each(alloc, means, subject, tags)
+    }
 }
 
 // Puts rows after others.

@@ -1,6 +1,6 @@
 //! Warnings of the hours in the values of a file.
 
-ghost use Rattle.std.specs.Prelude.{◌≡◌, ◌++◌, IfOk, OnOk, string_bytes};
+ghost use Rattle.std.specs.Prelude.{◌≡◌, ◌++◌, [], ℕ, List, IfOk, IsTrue, OnOk, string_bytes};
 ghost use Rattle.gtd_conditional_elements.specs.Warnings as spec;
 ghost use Rattle.gtd_conditional_elements.specs.Warnings.{AreWarnings};
 
@@ -20,6 +20,16 @@ fn before_warning(alloc: Global, path: &str, line: u64, row: u32) -> Result<Stri
     let path = Printable(path.as_bytes());
     write!(text, "{path}:{line}: row {row}: warning Hours ")?;
     Ok(text)
+}
+
+// Whether the hours of a term have no warning.
+fn is_silent(term: &Term) -> bool
+    ensures { IsTrue result → (before : List ℕ) → spec.term_lines before term.now ≡ [] }
+{
+    match term {
+        Term::Named(_) => true,
+        Term::Hours(given) => given.warnings.is_empty(),
+    }
 }
 
 // Appends the warnings of a term, each in a line behind these bytes.
@@ -55,17 +65,45 @@ fn push_parts(out: &mut Vec<u8>, before: &[u8], parts: &[Part]) -> Result<(), Al
     Ok(())
 }
 
+// Whether no hours of terms have a warning.
+fn are_silent(terms: &[Term]) -> bool
+    ensures { IsTrue result → (before : List ℕ) → spec.terms_lines before terms.now ≡ [] }
+{
+    let mut rest = terms;
+    while let Some((term, later)) = rest.split_first() {
+        if !is_silent(term) {
+            return false;
+        }
+        rest = later;
+    }
+    true
+}
+
+// Whether no hours of parts have one. Then nothing is written.
+fn say_nothing(parts: &[Part]) -> bool
+    ensures { IsTrue result → (before : List ℕ) → spec.parts_lines before parts.now ≡ [] }
+{
+    let mut rest = parts;
+    while let Some((part, later)) = rest.split_first() {
+        if !are_silent(part.terms.as_slice()) {
+            return false;
+        }
+        rest = later;
+    }
+    true
+}
+
 // The warnings of a tag whose row begins on this line of the file.
 fn tag_lines(alloc: Global, path: &str, line: u64, tag: &ReadTag) -> Result<Vec<u8>, AllocError>
     ensures { IfOk result (λ lines. lines.items ≡ spec.tag_lines path.now line tag.now) }
 {
-    let before = before_warning(alloc, path, line, tag.row)?;
     let mut lines = Vec::new(alloc);
-    push_parts(
-        &mut lines,
-        before.as_bytes(),
-        tag.tag.value.parts.as_slice(),
-    )?;
+    let parts = tag.tag.value.parts.as_slice();
+    if say_nothing(parts) {
+        return Ok(lines);
+    }
+    let before = before_warning(alloc, path, line, tag.row)?;
+    push_parts(&mut lines, before.as_bytes(), parts)?;
     Ok(lines)
 }
 

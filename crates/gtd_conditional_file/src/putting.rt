@@ -24,7 +24,7 @@ fn write_line(alloc: Global, line: &mut Vec<u8>, row: &ElementRow) -> Result<(),
         row.element,
         row.row.closed,
         &vehicles,
-        &row.row.domain,
+        row.row.domain.as_ref(),
     )
 }
 

@@ -1,5 +1,5 @@
 -- Counts are those of what is built; steps, one after another.
-use Rattle.std.proofs.Common.{drop, zero, suc, ◌≡◌, ◌↔◌, ◌+◌, ◌<◌, ℕ, Bool, true, false, List, [], ◌∷◌, Option, Some, None, cond, refl, ap, ◌∙◌}
+use Rattle.std.proofs.Common.{◌≡◌, ◌↔◌, ◌+◌, ◌<◌, ℕ, Bool, true, false, List, [], ◌∷◌, Option, Some, None, cond, refl, ap, ◌∙◌}
 use Rattle.std.proofs.Common.{arith, if◌then◌else◌, IsTrue, nat_lt}
 use Rattle.std.proofs.lemmas.Bool.{ltb-true, lt-ltb}
 use Rattle.gtd_core.specs.Trees.{leaf_count, tree_of}
@@ -80,14 +80,6 @@ said-whole false access a b e = cc
 pub whole-step : (step : Step) (t : ℕ) (a b : Times) → step.hours ≡ None → has_type step.types t ≡ true
     → times_by step t a ≡ times_by step t b
 whole-step step t a b none has = rw none (said-whole (has_type step.types t) step.access a b has)
-
--- So steps do what those from such a step on do.
-pub from-step : (k : ℕ) (steps later : List Step) (step : Step) (t : ℕ) (times : Times) → drop k steps ≡ step ∷ later
-    → step.hours ≡ None → has_type step.types t ≡ true → times_after (drop k steps) t Never ≡ times_after steps t times
-from-step zero steps later step t times is none has =
-    rw is (ap (λ (x : Times). times_after later t x) (whole-step step t Never times none has))
-from-step (suc k) [] later step t times is none has = cc
-from-step (suc k) (first ∷ more) later step t times is none has = from-step k more later step t (times_by first t times) is none has
 
 pub within-test : (times : Times) (n k : ℕ) → k ≡ 128 → size_of times ≡ size.Within n
     → IsTrue (nat_lt k n) ↔ (128 < leaves_in times)

@@ -9,6 +9,10 @@ use Rattle.gtd_conditional_rows.specs.Types.{HasType, IsVehicle}
 use Rattle.gtd_conditional_rows.specs.declared.row.Row.{Row}
 use Rattle.gtd_conditional_rows.specs.declared.step.Step.{Step}
 
+-- the same row, which closes both directions
+abbrev pub with_both : Row → Row
+with_both row = record row { closed = Both }
+
 -- the row closes both directions if it is among those of the other
 abbrev pub IsMarked : Direction → List Row → Row → Type 0
 IsMarked direction others row = row.closed ≡ (if is_listed row others then Both else One direction)

@@ -3,6 +3,7 @@ pub mod Flags
 pub mod Groups
 pub mod Kept
 pub mod Listings
+pub mod Overrides
 pub mod Rows
 pub mod Steps
 pub mod Times

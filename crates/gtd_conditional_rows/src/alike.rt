@@ -1,4 +1,4 @@
-//! Vehicle types for which steps do the same, and from which step on each matters.
+//! Vehicle types for which steps do the same.
 
 ghost use Rattle.std.specs.Prelude.{◌≡◌, ◌↔◌, ◌≤◌, ℕ, IfSome, IsTrue};
 ghost use Rattle.gtd_conditional_rows.specs.Alike.{AreAlike, IsLower, first_of};
@@ -7,12 +7,10 @@ ghost use Rattle.gtd_conditional_rows.specs.Types.{IsVehicle, has_type};
 
 use crate::step::Step;
 
-/// Of each vehicle type, at the place of its number, the lowest one for which the same steps apply, as far as it was found; and
-/// the place of the last step that applies to it at all seconds, which is looked at again where it is used.
+/// Of each vehicle type, at the place of its number, the lowest one for which the same steps apply, as far as it was found.
 #[derive(Clone, Copy)]
 pub(crate) struct Alike {
     first: [u8; 100],
-    whole: [usize; 100],
 }
 
 // Mixes into the number of each vehicle type whether a step speaks of it.
@@ -44,27 +42,6 @@ fn lowest_like(numbers: &[u32; 100], vehicle: u8) -> u8
     vehicle
 }
 
-// Notes the place of a step for the vehicle types to which it applies at all seconds.
-fn note(whole: &mut [usize; 100], step: &Step, place: usize) {
-    if step.hours.is_some() {
-        return;
-    }
-    for vehicle in 0..100 {
-        if step.types.has[vehicle] {
-            whole[vehicle] = place;
-        }
-    }
-}
-
-// The place of the last such step of each vehicle type; one that no step has, if there is none.
-fn wholes_of(steps: &[Step]) -> [usize; 100] {
-    let mut whole = [usize::MAX; 100];
-    for (place, step) in steps.iter().enumerate() {
-        note(&mut whole, step, place);
-    }
-    whole
-}
-
 // What the numbers of vehicle types say. Whether it holds is seen afterwards.
 fn guessed(steps: &[Step]) -> Alike {
     let numbers = numbers_of(steps);
@@ -72,21 +49,18 @@ fn guessed(steps: &[Step]) -> Alike {
     for vehicle in 1..100 {
         first[usize::from(vehicle)] = lowest_like(&numbers, vehicle);
     }
-    Alike {
-        first,
-        whole: wholes_of(steps),
-    }
+    Alike { first }
 }
 
 // Each vehicle type itself.
-fn each_itself(whole: [usize; 100]) -> Alike
+fn each_itself() -> Alike
     ensures { (t : ℕ) → IsVehicle t → first_of result t ≡ t }
 {
     let mut first = [0; 100];
     for vehicle in 1..100 {
         first[usize::from(vehicle)] = vehicle;
     }
-    Alike { first, whole }
+    Alike { first }
 }
 
 // Whether a step speaks of a vehicle type exactly if it speaks of the one that is kept of it.
@@ -145,17 +119,10 @@ pub(crate) fn alike_in(steps: &[Step]) -> Alike
     if is_each_itself(&alike) || are_alike(steps, &alike) {
         return alike;
     }
-    each_itself(alike.whole)
+    each_itself()
 }
 
 impl Alike {
-    /// The place of the last step that applies to a vehicle type at all seconds, as far as it was found.
-    pub(crate) fn whole(&self, vehicle: u8) -> usize
-        requires { IsVehicle vehicle }
-    {
-        self.whole[usize::from(vehicle)]
-    }
-
     /// A lower vehicle type for which the same steps apply, if one was found.
     pub(crate) fn lower(&self, vehicle: u8) -> Option<u8>
         requires { IsVehicle vehicle }

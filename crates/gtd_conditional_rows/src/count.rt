@@ -10,7 +10,6 @@ ghost use Rattle.gtd_conditional_rows.specs.declared.count.Size.TheVariants as s
 use crate::alike::{Alike, alike_in};
 use crate::expr::{leaves, sum};
 use crate::step::Step;
-use crate::times::from_whole;
 use gtd_conditional_means::Access;
 use gtd_core::Expr;
 use gtd_core::limits::MOST_BASIC_DOMAINS;
@@ -82,12 +81,11 @@ fn after(steps: &[Step], vehicle: u8) -> Size
     size
 }
 
-// Whether a vehicle type needs more basic domains than a domain may have. What comes before the step at this place is not gone
-// over if that step applies to the type at all seconds.
-fn is_too_much(steps: &[Step], place: usize, vehicle: u8) -> bool
+// Whether a vehicle type needs more basic domains than a domain may have.
+fn is_too_much(steps: &[Step], vehicle: u8) -> bool
     ensures { IsTrue result ↔ (most_basic_domains < leaves_in (times_of steps.now vehicle)) }
 {
-    match after(from_whole(steps, place, vehicle), vehicle) {
+    match after(steps, vehicle) {
         Size::Never => false,
         Size::Always => false,
         Size::Within(count) => count > u32::from(MOST_BASIC_DOMAINS),
@@ -104,7 +102,7 @@ fn is_first_too_much(steps: &[Step], alike: &Alike, vehicle: u8) -> bool
 {
     match alike.lower(vehicle) {
         Some(_) => false,
-        None => is_too_much(steps, alike.whole(vehicle), vehicle),
+        None => is_too_much(steps, vehicle),
     }
 }
 

@@ -25,7 +25,6 @@ use std::alloc::{AllocError, Global};
 struct Side<'a> {
     steps: &'a [Step],
     kept: &'a [Kept],
-    alike: &'a Alike,
     direction: Direction,
     others: &'a [Row],
 }
@@ -87,7 +86,7 @@ fn group_of(alloc: Global, side: Side, vehicle: u8) -> Result<Option<Row>, Alloc
     requires kept { AreKept side.steps.now side.kept.now }
     ensures { IfOk result (IsGroupOf side.entry.steps.now side.entry.direction side.entry.others.now vehicle) }
 {
-    match timing_of(alloc, side.steps, side.alike.whole(vehicle), vehicle)? {
+    match timing_of(alloc, side.steps, vehicle)? {
         Timing::Never => Ok(None),
         Timing::Closed(domain) => {
             let types = types_like(side, &domain);
@@ -182,11 +181,13 @@ pub(crate) fn groups_in(
     ensures groups { IfOk result (λ rows. AreGroups steps.now rows.items) }
     ensures closed { IfOk result (λ rows. Each (IsMarked direction others.now) rows.items) }
 {
+    if steps.is_empty() {
+        return Ok(Vec::new(alloc));
+    }
     let kept = kept_timings(alloc, steps, alike)?;
     let side = Side {
         steps,
         kept: kept.as_slice(),
-        alike,
         direction,
         others,
     };

@@ -29,7 +29,7 @@ fn kept_of(alloc: Global, steps: &[Step], alike: &Alike, vehicle: u8) -> Result<
 {
     match alike.lower(vehicle) {
         Some(lower) => Ok(Kept::As(lower)),
-        None => Ok(Kept::Own(timing_of(alloc, steps, alike.whole(vehicle), vehicle)?)),
+        None => Ok(Kept::Own(timing_of(alloc, steps, vehicle)?)),
     }
 }
 
@@ -43,7 +43,7 @@ pub(crate) fn kept_timings(
     requires alike { AreAlike steps.now alike.now }
     ensures { IfOk result (λ kept. AreKept steps.now kept.items) }
 {
-    let mut kept = Vec::new(alloc);
+    let mut kept = Vec::with_capacity(alloc, 100)?;
     kept.push(Kept::As(0))?;
     for vehicle in 1..100 {
         let own = kept_of(alloc, steps, alike, vehicle)?;

@@ -1,11 +1,10 @@
 //! When steps close an element for a vehicle type.
 
-ghost use Rattle.std.specs.Prelude.{◌≡◌, ◌≤◌, ◌↔◌, Some, None, IfOk, IsTrue};
+ghost use Rattle.std.specs.Prelude.{◌≡◌, ◌≤◌, Some, IfOk};
 ghost use Rattle.gtd_core.specs.Limits.{most_basic_domains};
 ghost use Rattle.gtd_conditional_rows.specs.Timing.{times_in, timing_times};
 ghost use Rattle.gtd_conditional_rows.specs.Times as spec;
 ghost use Rattle.gtd_conditional_rows.specs.Times.{Never, leaves_in, times_after, times_by, times_of};
-ghost use Rattle.gtd_conditional_rows.specs.Types.{HasType};
 
 use crate::expr::{every_day, joined};
 use crate::step::Step;
@@ -88,23 +87,6 @@ fn by(alloc: Global, step: &Step, vehicle: u8, times: Times) -> Result<Times, Al
     }
 }
 
-// Whether a step applies to a vehicle type at all seconds.
-fn is_whole(step: &Step, vehicle: u8) -> bool
-    ensures { IsTrue result ↔ ((step.now.hours ≡ None) × HasType step.now.types vehicle) }
-{
-    step.hours.is_none() && step.types.has(vehicle)
-}
-
-/// The steps from the one at a place on, if it applies to a vehicle type at all seconds, and else all steps: they do the same.
-pub(crate) fn from_whole<'a>(steps: &'a [Step], place: usize, vehicle: u8) -> &'a [Step]
-    ensures { times_of result.now vehicle ≡ times_of steps.now vehicle }
-{
-    match steps.get(place) {
-        Some(step) if is_whole(step, vehicle) => &steps[place..],
-        _ => steps,
-    }
-}
-
 fn after(alloc: Global, steps: &[Step], vehicle: u8) -> Result<Times, AllocError>
     ensures { IfOk result (λ r. times_in r ≡ times_after steps.now vehicle Never) }
 {
@@ -117,18 +99,12 @@ fn after(alloc: Global, steps: &[Step], vehicle: u8) -> Result<Times, AllocError
     Ok(times)
 }
 
-/// When steps close an element for a vehicle type. What comes before the step at this place is not gone over if that step applies to
-/// the type at all seconds.
-pub(crate) fn timing_of(
-    alloc: Global,
-    steps: &[Step],
-    place: usize,
-    vehicle: u8,
-) -> Result<Timing, AllocError>
+/// When steps close an element for a vehicle type.
+pub(crate) fn timing_of(alloc: Global, steps: &[Step], vehicle: u8) -> Result<Timing, AllocError>
     requires { leaves_in (times_of steps.now vehicle) ≤ most_basic_domains }
     ensures { IfOk result (λ timing. timing_times timing ≡ times_of steps.now vehicle) }
 {
-    match after(alloc, from_whole(steps, place, vehicle), vehicle)? {
+    match after(alloc, steps, vehicle)? {
         Times::Never => Ok(Timing::Never),
         Times::Always => Ok(Timing::Closed(None)),
         Times::Within(expr) => match Domain::new(expr) {

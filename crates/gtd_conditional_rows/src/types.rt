@@ -13,7 +13,7 @@ pub struct Types {
 }
 
 impl Types {
-    ghost use Rattle.std.specs.Prelude.{◌≡◌, ◌↔◌, ◌⊎◌, ℕ};
+    ghost use Rattle.std.specs.Prelude.{◌≡◌, ◌↔◌, ◌⊎◌, ℕ, IsTrue};
     ghost use Rattle.gtd_conditional_rows.specs.Types.{HasType, IsVehicle, has_type, same_flags};
 
     /// No type.
@@ -61,6 +61,28 @@ impl Types {
             has[vehicle] = !self.has[vehicle];
         }
         Types { has }
+    }
+
+    // The types that are in one of both sets.
+    pub(crate) fn either(&self, other: &Types) -> Types
+        ensures { (t : ℕ) → IsVehicle t → HasType result t ↔ (HasType self.now t ⊎ HasType other.now t) }
+    {
+        let mut has = [false; 100];
+        for vehicle in 1..100 {
+            has[vehicle] = self.has[vehicle] || other.has[vehicle];
+        }
+        Types { has }
+    }
+
+    // Whether all types are in another set. All are looked at, so that many are at once.
+    pub(crate) fn are_in(&self, other: &Types) -> bool
+        ensures { IsTrue result ↔ ((t : ℕ) → IsVehicle t → HasType self.now t → HasType other.now t) }
+    {
+        let mut all = true;
+        for vehicle in 1..100 {
+            all = all && (!self.has[vehicle] || other.has[vehicle]);
+        }
+        all
     }
 
     // Whether both have the same types.

@@ -2,3 +2,4 @@ pub mod ClosingLemmas
 pub mod StepLemmas
 pub mod ModeLemmas
 pub mod TermLemmas
+pub mod TwoWayLemmas

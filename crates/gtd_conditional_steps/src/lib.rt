@@ -1,12 +1,14 @@
 //! What the tags of a way say, as steps that close and open it.
 //!
-//! [`steps_of`] answers the steps of a direction, of which `gtd_conditional_rows` makes rows. [`needs_too_many`] is whether the
-//! hours of a value need more basic domains than a domain may have.
+//! [`steps_of`] answers the steps of a direction, of which `gtd_conditional_rows` makes rows. [`are_two_way`] is whether the steps
+//! of both directions are the same, and [`needs_too_many`] whether the hours of a value need more basic domains than a domain may
+//! have.
 #![tactic(auto)]
 
 pub use count::needs_too_many;
 pub use steps::steps_of;
 pub use tag::{StepsFault, Tag};
+pub use two_way::are_two_way;
 
 mod count;
 mod hours;
@@ -14,4 +16,5 @@ mod keys;
 mod modes;
 mod steps;
 mod tag;
+mod two_way;
 mod types;

@@ -25,9 +25,9 @@ is_sun_word word =
 abbrev pub is_hours_word : List ℕ → Bool
 is_hours_word word = is_state_word word || is_day_word word || is_sun_word word
 
--- the term is the word of a condition: the table has it, or it is no word of opening hours
+-- the term is the word of a condition: it is a word that opening hours do not have, or the table has it
 abbrev pub is_condition_word : List MeansRow → List ℕ → Bool
-is_condition_word rows term = is_there (types_of Condition term rows) || is_lower_word term && not (is_hours_word term)
+is_condition_word rows term = is_lower_word term && not (is_hours_word term) || is_there (types_of Condition term rows)
 
 -- The name by which a term is looked up: a comparison by its normal form, a word as it is. None, if the term is opening hours.
 abbrev pub name_of : List MeansRow → List ℕ → Option (List ℕ)

@@ -55,7 +55,7 @@ pub(crate) fn has_condition(means: &Means, name: &[u8]) -> bool
 fn is_condition_word(means: &Means, term: &[u8]) -> bool
     ensures { result ≡ spec.is_condition_word means.now.rows.items term.now }
 {
-    has_condition(means, term) || (is_lower_word(term) && !is_hours_word(term))
+    (is_lower_word(term) && !is_hours_word(term)) || has_condition(means, term)
 }
 
 // The term itself, if it is the word of a condition.

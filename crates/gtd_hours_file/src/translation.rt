@@ -54,7 +54,14 @@ fn write_line(alloc: Global, line: &mut Vec<u8>, row: &HoursRow) -> Result<(), A
     ensures short { OnOk result (length line.new.items ≤ 16384) }
 {
     let domain = domain_in(alloc, &row.hours)?;
-    write_row(alloc, line, row.element, row.closed, &row.vehicles, &domain)
+    write_row(
+        alloc,
+        line,
+        row.element,
+        row.closed,
+        &row.vehicles,
+        domain.as_ref(),
+    )
 }
 
 // Puts the lines that rows are translated to, in their order, after the header line.

@@ -55,9 +55,9 @@ fn push_vehicles(line: &mut Vec<u8>, vehicles: &Vehicles) -> Result<(), AllocErr
 }
 
 // Appends the canonical text of a domain, if there is one, to the buffer.
-fn push_domain(alloc: Global, line: &mut Vec<u8>, domain: &Option<Domain>) -> Result<(), AllocError>
+fn push_domain(alloc: Global, line: &mut Vec<u8>, domain: Option<&Domain>) -> Result<(), AllocError>
     ensures text { OnOk result (line.new.items
-        ≡ line.old.items ++ domain_text (option_map domain_tree domain.now)) }
+        ≡ line.old.items ++ domain_text (option_map (λ d. domain_tree d.now) domain.entry)) }
     ensures short { OnOk result (length line.new.items ≤ length line.old.items + 12925) }
 {
     match domain {
@@ -75,13 +75,13 @@ pub fn write_row(
     element: u64,
     closed: Closed,
     vehicles: &Vehicles,
-    domain: &Option<Domain>,
+    domain: Option<&Domain>,
 ) -> Result<(), AllocError>
     ensures text { OnOk result (line.new.items ≡ row_line (record {
       element = element;
       closed = closed;
       vehicles = vehicles.now;
-      domain = option_map domain_tree domain.now;
+      domain = option_map (λ d. domain_tree d.now) domain.entry;
     })) }
     ensures short { OnOk result (length line.new.items ≤ 16384) }
 {
@@ -111,6 +111,6 @@ pub(crate) fn write_line(
         restriction.element,
         restriction.closed,
         &restriction.vehicles,
-        &restriction.domain,
+        restriction.domain(),
     )
 }

@@ -22,7 +22,7 @@ impl<'a> FileRows<'a> {
         ensures { option_map (λ domain. domain_tree domain.now) result ≡ row_domain self.now.records.now row }
     {
         match self.records.get(row.saturating_sub(1)) {
-            Some(record) => record.domain.as_ref(),
+            Some(record) => record.domain(),
             None => None,
         }
     }

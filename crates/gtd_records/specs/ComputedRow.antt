@@ -1,13 +1,11 @@
 -- What reading a row computes, column by column.
-use Rattle.std.specs.Prelude.{◌≡◌, ℕ, List, [], ◌∷◌, Result, Ok, Err, Option, Some, None, option_map, MatchOption}
+use Rattle.std.specs.Prelude.{◌≡◌, ℕ, List, [], ◌∷◌, Result, Ok, Err, Option, Some, None, MatchOption}
 use Rattle.gtd_records.specs.Closing.{Restriction}
 use Rattle.gtd_records.specs.Columns.{Fields, number_of, closed_of, IsOrdered, vehicles_of}
 use Rattle.gtd_records.specs.declared.fault.RecordFault.{RecordFault}
 use Rattle.gtd_records.specs.declared.fault.RecordFault.TheVariants as fault
 use Rattle.gtd_records.specs.declared.vehicles.Version.{Version}
-use Rattle.gtd_core.specs.Parts.{domain_tree}
 use Rattle.gtd_core.specs.Trees.{Tree}
-use Rattle.gtd_core.specs.declared.domain.Domain.{Domain}
 use Rattle.gtd_core.specs.declared.fault.TextFault.{TextFault}
 use Rattle.gtd_text.specs.Reading.{StandsFor, HasNoFault, IsFault}
 use Rattle.gtd_records.specs.declared.direction.Closed.{Closed}
@@ -49,7 +47,7 @@ IsRow version row (element ∷ closed ∷ vehicles ∷ domain ∷ []) answer =
 IsRow version row _ answer = answer ≡ Err (fault.FieldCount row)
 
 -- what reading the last column gave, in the row with this number
-abbrev pub IsDomainRead : ℕ → List ℕ → Result (Option Domain) RecordFault → Type 0
-IsDomainRead row text (Ok domain) = IsDomainColumn text (Ok (option_map domain_tree domain))
+abbrev pub IsDomainRead : ℕ → List ℕ → Result (Option Tree) RecordFault → Type 0
+IsDomainRead row text (Ok domain) = IsDomainColumn text (Ok domain)
 IsDomainRead row text (Err why) =
     (of_text : TextFault) × IsDomainColumn text (Err of_text) × (why ≡ fault.Domain row of_text)

@@ -1,12 +1,11 @@
 //! The texts of domains that a file repeats, so that such a text is not read each time.
 
 ghost use Rattle.std.specs.Prelude.{◌≡◌, ◌<◌, ◌⊎◌, IfOk, IfErr, IfSome, length};
-ghost use Rattle.gtd_core.specs.Parts.{domain_tree};
-ghost use Rattle.gtd_core.specs.Trees.{tree_of};
 ghost use Rattle.gtd_text.specs.Faults.{no_memory};
 ghost use Rattle.gtd_text.specs.Reading.{HasNoFault, IsFault, StandsFor};
 
-use gtd_core::{Domain, Expr, Fault, TextFault};
+use crate::shared::SharedDomain;
+use gtd_core::{Fault, TextFault};
 use gtd_text::read_domain;
 use std::alloc::{AllocError, Global};
 use std::marker::Model;
@@ -23,48 +22,22 @@ const NO_MEMORY: TextFault = TextFault {
     place: 0,
 };
 
-// A copy of an expression.
-fn copy_expr(alloc: Global, expr: &Expr) -> Result<Expr, AllocError>
-    ensures { IfOk result (λ copy. tree_of copy ≡ tree_of expr.now) }
-{
-    match expr {
-        Expr::Leaf(basic) => Ok(Expr::Leaf(*basic)),
-        Expr::Join(op, left, right) => {
-            let left = copy_expr(alloc, left)?;
-            let right = copy_expr(alloc, right)?;
-            Ok(Expr::Join(*op, Box::new(alloc, left)?, Box::new(alloc, right)?))
-        }
-    }
-}
-
-// A copy of a domain.
-fn copy_domain(alloc: Global, domain: &Domain) -> Result<Domain, AllocError>
-    ensures { IfOk result (λ copy. domain_tree copy ≡ domain_tree domain.now) }
-{
-    match Domain::new(copy_expr(alloc, domain.expr())?) {
-        Ok(copy) => Ok(copy),
-        // A copy has as many basic domains as the domain.
-        Err(_) => Err(AllocError),
-    }
-}
-
 /// A text and the domain that it stands for. In contracts it is the text.
 #[derive(Drop)]
 struct KnownText {
     text: Vec<u8>,
-    domain: Domain,
+    domain: SharedDomain,
 }
 
 impl Model for KnownText {
     ghost use Rattle.std.specs.Prelude.{List, ℕ};
-    ghost use Rattle.gtd_core.specs.Parts.{domain_tree};
     ghost use Rattle.gtd_text.specs.Reading.{HasNoFault, StandsFor};
 
     ghost Value = { List ℕ };
 
     ghost view = { λ a. a.text.items };
 
-    ghost invariant = { λ a. StandsFor a.text.items (domain_tree a.domain) × HasNoFault a.text.items };
+    ghost invariant = { λ a. StandsFor a.text.items a.domain × HasNoFault a.text.items };
 }
 
 // The hash of a text (that of FNV, from 0). Few other texts have the same.
@@ -83,18 +56,30 @@ fn place_of(hash: u32) -> usize
     (hash >> 20) as usize
 }
 
-// A copy of a text, with a copy of its domain.
-fn known_text(alloc: Global, text: &[u8], domain: &Domain) -> Result<KnownText, AllocError>
-    requires found { StandsFor text.now (domain_tree domain.now) }
+// A copy of a text, with its domain.
+fn known_text(alloc: Global, text: &[u8], domain: &SharedDomain) -> Result<KnownText, AllocError>
+    requires found { StandsFor text.now domain.now }
     requires faultless { HasNoFault text.now }
 {
-    let domain = copy_domain(alloc, domain)?;
+    let domain = domain.share()?;
     let mut bytes = Vec::new(alloc);
     bytes.extend_from_slice(text)?;
     Ok(KnownText {
         text: bytes,
         domain,
     })
+}
+
+// The domain that a text stands for, or its first fault.
+fn read_shared(alloc: Global, text: &[u8]) -> Result<SharedDomain, TextFault>
+    ensures found { IfOk result (λ domain. StandsFor text.now domain × HasNoFault text.now) }
+    ensures fault { IfErr result (λ fault. (fault ≡ no_memory) ⊎ IsFault text.now fault) }
+{
+    let domain = read_domain(alloc, text)?;
+    match SharedDomain::new(alloc, domain) {
+        Ok(shared) => Ok(shared),
+        Err(_) => Err(NO_MEMORY),
+    }
 }
 
 /// The latest texts that were read twice, each at its place, with their domains.
@@ -130,10 +115,9 @@ impl KnownTexts {
         Ok(is_same)
     }
 
-    // A copy of the domain of a text with this hash, if the text is known.
-    fn find(&self, alloc: Global, text: &[u8], hash: u32) -> Result<Option<Domain>, AllocError>
-        ensures { IfOk result (λ found. IfSome found
-            (λ domain. StandsFor text.now (domain_tree domain) × HasNoFault text.now)) }
+    // The domain of a text with this hash, if the text is known.
+    fn find(&self, text: &[u8], hash: u32) -> Result<Option<SharedDomain>, AllocError>
+        ensures { IfOk result (λ found. IfSome found (λ domain. StandsFor text.now domain × HasNoFault text.now)) }
     {
         let Some(Some(known)) = self.places.get(place_of(hash)) else {
             return Ok(None);
@@ -141,20 +125,19 @@ impl KnownTexts {
         if known.text.as_slice() != text {
             return Ok(None);
         }
-        let domain = copy_domain(alloc, &known.domain)?;
+        let domain = known.domain.share()?;
         Ok(Some(domain))
     }
 
-    // Keeps a text with this hash at its place, if it was read before. A file that repeats no text would only pay
-    // for the copies.
+    // Keeps a text with this hash at its place, if it was read before. A file that repeats no text would only pay for the copies.
     fn keep(
         &mut self,
         alloc: Global,
         text: &[u8],
         hash: u32,
-        domain: &Domain,
+        domain: &SharedDomain,
     ) -> Result<(), AllocError>
-        requires found { StandsFor text.now (domain_tree domain.now) }
+        requires found { StandsFor text.now domain.now }
         requires faultless { HasNoFault text.now }
     {
         if !self.replace_latest_hash(hash)? {
@@ -171,21 +154,21 @@ impl KnownTexts {
     }
 
     /// The domain that a text stands for, or its first fault: as `read_domain` answers.
-    pub(crate) fn read(&mut self, alloc: Global, text: &[u8]) -> Result<Domain, TextFault>
-        ensures found { IfOk result (λ domain. StandsFor text.now (domain_tree domain) × HasNoFault text.now) }
+    pub(crate) fn read(&mut self, alloc: Global, text: &[u8]) -> Result<SharedDomain, TextFault>
+        ensures found { IfOk result (λ domain. StandsFor text.now domain × HasNoFault text.now) }
         ensures fault { IfErr result (λ fault. (fault ≡ no_memory) ⊎ IsFault text.now fault) }
     {
         let hash = hash_of(text);
         self.latest = hash;
         if text.len() > LONGEST {
-            return read_domain(alloc, text);
+            return read_shared(alloc, text);
         }
-        match self.find(alloc, text, hash) {
+        match self.find(text, hash) {
             Ok(Some(domain)) => return Ok(domain),
             Ok(None) => {}
             Err(_) => return Err(NO_MEMORY),
         }
-        let domain = read_domain(alloc, text)?;
+        let domain = read_shared(alloc, text)?;
         match self.keep(alloc, text, hash, &domain) {
             Ok(()) => Ok(domain),
             Err(_) => Err(NO_MEMORY),

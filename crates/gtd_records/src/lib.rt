@@ -36,4 +36,5 @@ mod record;
 mod row;
 mod rows;
 mod schedule;
+mod shared;
 mod vehicles;

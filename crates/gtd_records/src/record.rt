@@ -1,6 +1,7 @@
 //! One restriction record.
 
-ghost use Rattle.std.specs.Prelude.{◌≡◌, ◌↔◌, ◌≤◌, ℤ, IfOk, IfSome, IsTrue};
+ghost use Rattle.std.specs.Prelude.{◌≡◌, ◌↔◌, ◌≤◌, ℤ, IfOk, IfSome, IsTrue, option_map};
+ghost use Rattle.gtd_core.specs.Parts.{domain_tree};
 ghost use Rattle.gtd_core.specs.Seconds.{Within, IsHorizonSecond};
 ghost use Rattle.gtd_core.specs.Whole.{whole};
 ghost use Rattle.gtd_eval.specs.Cursors.{cursor_list, cursor_nodes};
@@ -10,6 +11,7 @@ ghost use Rattle.gtd_eval.specs.Stays.{IsStay};
 ghost use Rattle.gtd_spans.specs.Normal.{Holds};
 
 use crate::direction::{Closed, Direction};
+use crate::shared::SharedDomain;
 use crate::vehicles::Vehicles;
 use gtd_core::{Domain, Horizon, Sec};
 use gtd_eval::{Leaf, Period, Stay, SweepTree, holds, period_of, stay_of};
@@ -25,15 +27,13 @@ pub struct Record {
     pub closed: Closed,
     /// The vehicle types for which it closes them.
     pub vehicles: Vehicles,
-    /// When it closes them: at the seconds of a domain, or always.
-    pub domain: Option<Domain>,
+    // When it closes them: at the seconds of a domain, or always.
+    pub(crate) domain: Option<SharedDomain>,
     // The hash of the domain's text. Records with the same text have the same.
     pub(crate) text_hash: u32,
 }
 
 impl Model for Record {
-    ghost use Rattle.std.specs.Prelude.{option_map};
-    ghost use Rattle.gtd_core.specs.Parts.{domain_tree};
     ghost use Rattle.gtd_records.specs.Closing.{Restriction};
     ghost use Rattle.gtd_records.specs.facts.RestrictionCode.{restriction_code};
 
@@ -45,11 +45,22 @@ impl Model for Record {
       element = a.element;
       closed = a.closed;
       vehicles = a.vehicles;
-      domain = option_map domain_tree a.domain;
+      domain = a.domain;
     } };
 }
 
 impl Record {
+    /// When it closes what it concerns: at the seconds of a domain, or always if there is none. Records whose domains are written
+    /// in one text may share it. Takes no memory.
+    pub fn domain(&self) -> Option<&Domain>
+        ensures domain { option_map (λ domain. domain_tree domain.now) result ≡ self.now.domain }
+    {
+        match &self.domain {
+            Some(shared) => Some(shared.domain()),
+            None => None,
+        }
+    }
+
     // Whether the record closes its element in a direction for a vehicle type, whatever the second.
     pub(crate) fn concerns(&self, direction: Direction, vehicle: u8) -> bool
         ensures { IsTrue result ↔ Concerns direction vehicle self.now }
@@ -67,9 +78,9 @@ impl Record {
     fn has_domain_of(&self, other: &Record) -> bool
         ensures { IsTrue result → self.now.domain ≡ other.now.domain }
     {
-        match &self.domain {
-            None => other.domain.is_none(),
-            Some(domain) => match &other.domain {
+        match self.domain() {
+            None => other.domain().is_none(),
+            Some(domain) => match other.domain() {
                 None => false,
                 Some(other) => *domain == *other,
             },
@@ -111,7 +122,7 @@ impl Record {
         requires { IsHorizonSecond second.0 }
         ensures { IsTrue result ↔ HoldsAt self.now.domain second.0 }
     {
-        match &self.domain {
+        match self.domain() {
             Some(domain) => holds(domain, second),
             None => true,
         }
@@ -122,7 +133,7 @@ impl Record {
         requires inside { Within (whole horizon) second.0 }
         ensures stays { IsStay (HoldsAt self.now.domain) second.0 (whole horizon).until result }
     {
-        match &self.domain {
+        match self.domain() {
             Some(domain) => stay_of(domain, second, horizon),
             None => Stay {
                 holds: true,
@@ -136,7 +147,7 @@ impl Record {
     pub(crate) fn period(&self) -> Option<Period>
         ensures repeats { IfSome result (λ x. RepeatsFrom x (HoldsAt self.now.domain)) }
     {
-        let Some(domain) = &self.domain else {
+        let Some(domain) = self.domain() else {
             return Some(Period::Minute);
         };
         period_of(domain)
@@ -152,7 +163,7 @@ impl Record {
             ↔ (Within (whole horizon) t × HoldsAt self.now.domain t)) }
         ensures nodes { IfOk result (λ c. cursor_nodes c ≤ 255) }
     {
-        match &self.domain {
+        match self.domain() {
             Some(domain) => SweepTree::<L>::open(alloc, domain, horizon),
             None => Ok(SweepTree::<L>::whole(horizon)),
         }

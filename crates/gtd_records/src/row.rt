@@ -11,9 +11,10 @@ use crate::column::{read_closed, read_number};
 use crate::fault::RecordFault;
 use crate::known::KnownTexts;
 use crate::record::Record;
+use crate::shared::SharedDomain;
 use crate::vehicles::{Version, read_vehicles};
 use csv::ByteRecord;
-use gtd_core::{Domain, Fault};
+use gtd_core::Fault;
 use std::alloc::Global;
 
 /// The columns of a row that has four.
@@ -89,7 +90,7 @@ fn read_last(
     known: &mut KnownTexts,
     number: u32,
     text: &[u8],
-) -> Result<Option<Domain>, RecordFault>
+) -> Result<Option<SharedDomain>, RecordFault>
     ensures { result ≢ Err RecordFault.NoMemory → IsDomainRead number text.now result }
 {
     if text.is_empty() {

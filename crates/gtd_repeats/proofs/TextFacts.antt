@@ -1,8 +1,8 @@
 -- Whether two rows have the same text, and whether directions are among others.
 use Rattle.std.proofs.Common.{◌≡◌, ◌∙◌, sym, ap, refl, ◌↔◌, Option, Some, Bool, IsTrue}
-use Rattle.std.specs.Prelude.{option_map}
 use Rattle.gtd_core.specs.Equality.{same_tree}
 use Rattle.gtd_core.specs.Parts.{domain_tree}
+use Rattle.gtd_core.specs.Trees.{Tree}
 use Rattle.gtd_core.specs.declared.domain.Domain.{Domain}
 use Rattle.gtd_core.specs.facts.EqualTrees.{equal_same, tree_equal}
 use Rattle.gtd_records.specs.declared.direction.Closed.TheVariants.{One, Both}
@@ -10,8 +10,8 @@ use Rattle.gtd_records.specs.declared.direction.Direction.{Direction}
 use Rattle.gtd_records.specs.declared.direction.Direction.TheVariants.{Positive, Negative}
 use Rattle.gtd_repeats.specs.Sameness.{ClosesWithin}
 
-pub text_same : (a b : Domain) (x y : Option Domain) (r : Bool) → x ≡ Some a → y ≡ Some b
-    → r ≡ same_tree (domain_tree a) (domain_tree b) → IsTrue r ↔ (option_map domain_tree x ≡ option_map domain_tree y)
+pub text_same : (a b : Domain) (x y : Option Tree) (r : Bool) → x ≡ Some (domain_tree a) → y ≡ Some (domain_tree b)
+    → r ≡ same_tree (domain_tree a) (domain_tree b) → IsTrue r ↔ (x ≡ y)
 text_same a b x y r e f is =
     rw (e, f) (
       (λ t. ap Some (tree_equal (domain_tree a) (domain_tree b) (sym is ∙ t))),

@@ -31,8 +31,8 @@ fn are_alike(alloc: Global, kind: Kind, first: &Record, second: &Record) -> Resu
     ensures alike { IfOk result (λ alike. IsTrue alike ↔ AreAlike kind first.now second.now) }
 {
     match kind {
-        Kind::Text => Ok(have_same_text(&first.domain, &second.domain)),
-        Kind::Seconds => hold_same(alloc, &first.domain, &second.domain),
+        Kind::Text => Ok(have_same_text(first.domain(), second.domain())),
+        Kind::Seconds => hold_same(alloc, first.domain(), second.domain()),
         Kind::Row => is_same_row(alloc, first, second),
     }
 }

@@ -90,7 +90,7 @@ pub(crate) fn is_within_seconds(
     }
     let first = &rows[row];
     let second = &rows[other];
-    let is_within = holds_within(alloc, &first.domain, &second.domain)?;
+    let is_within = holds_within(alloc, first.domain(), second.domain())?;
     let answer = Answer {
         row,
         other,

@@ -66,7 +66,7 @@ fn is_seen_apart(all: &Grouped<'_>, row: usize, other: usize) -> bool
     let rows = all.rows;
     let first = &rows[row];
     let second = &rows[other];
-    is_end_alone(&first.domain, &second.domain, &all.spans[row])
+    is_end_alone(first.domain(), second.domain(), &all.spans[row])
 }
 
 // Whether a row closes at no second at which another does not.

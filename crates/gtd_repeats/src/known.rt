@@ -71,7 +71,7 @@ fn with_expr(hash: u32, expr: &Expr) -> u32 {
 }
 
 // The place of a hash of the domain's parts. Few other domains have the same.
-fn place_of(domain: &Option<Domain>) -> usize {
+fn place_of(domain: Option<&Domain>) -> usize {
     match domain {
         Some(domain) => (with_expr(1, domain.expr()) >> 20) as usize,
         None => 0,
@@ -97,7 +97,7 @@ fn known_of(rows: &[Record], candidate: usize, row: usize) -> usize
     }
     let earlier = &rows[candidate];
     let record = &rows[row];
-    if have_same_text(&earlier.domain, &record.domain) {
+    if have_same_text(earlier.domain(), record.domain()) {
         candidate
     } else {
         row
@@ -115,7 +115,7 @@ pub(crate) fn known_rows(alloc: Global, rows: &[Record]) -> Result<Vec<usize>, A
     let mut known = Vec::new(alloc);
     for row in 0..rows.len() {
         let record = &rows[row];
-        let place = place_of(&record.domain);
+        let place = place_of(record.domain());
         known.push(known_of(rows, row_in(latest.as_slice(), place), row))?;
         if let Some(kept) = latest.get_mut(place) {
             *kept = row;

@@ -105,8 +105,8 @@ fn number_of_domain(alloc: Global, domain: &Domain) -> Result<u64, AllocError>
 }
 
 // The number of a row with this domain, or with none.
-fn number_of(alloc: Global, domain: &Option<Domain>) -> Result<u64, AllocError>
-    ensures number { IfOk result (IsNumberOf (option_map domain_tree domain.now)) }
+fn number_of(alloc: Global, domain: Option<&Domain>) -> Result<u64, AllocError>
+    ensures number { IfOk result (IsNumberOf (option_map (λ d. domain_tree d.now) domain.entry)) }
 {
     match domain {
         Some(domain) => number_of_domain(alloc, domain),
@@ -133,7 +133,7 @@ fn next_number(
         Some(number) => Ok(*number),
         None => {
             let record = &rows[numbers.len()];
-            number_of(alloc, &record.domain)
+            number_of(alloc, record.domain())
         }
     }
 }

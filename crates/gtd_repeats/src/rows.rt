@@ -25,7 +25,7 @@ pub(crate) fn is_same_row(
     if !serve_same(&first.vehicles, &second.vehicles) {
         return Ok(false);
     }
-    hold_same(alloc, &first.domain, &second.domain)
+    hold_same(alloc, first.domain(), second.domain())
 }
 
 /// Whether a row is within another, if it closes at no second at which the other does not.

@@ -94,11 +94,11 @@ fn are_same(alloc: Global, first: &Domain, second: &Domain) -> Result<bool, Allo
 // The same of domains that may not be given, which stand for every second.
 fn hold_same_apart(
     alloc: Global,
-    first: &Option<Domain>,
-    second: &Option<Domain>,
+    first: Option<&Domain>,
+    second: Option<&Domain>,
 ) -> Result<bool, AllocError>
     ensures same { IfOk result (λ same. IsTrue same
-        ↔ HoldSame (option_map domain_tree first.now) (option_map domain_tree second.now)) }
+        ↔ HoldSame (option_map (λ d. domain_tree d.now) first.entry) (option_map (λ d. domain_tree d.now) second.entry)) }
 {
     match first {
         Some(domain) => match second {
@@ -113,8 +113,9 @@ fn hold_same_apart(
 }
 
 /// Whether two rows have the same text, after it is made canonical: the same domain, or both none.
-pub(crate) fn have_same_text(first: &Option<Domain>, second: &Option<Domain>) -> bool
-    ensures same { IsTrue result ↔ (option_map domain_tree first.now ≡ option_map domain_tree second.now) }
+pub(crate) fn have_same_text(first: Option<&Domain>, second: Option<&Domain>) -> bool
+    ensures same { IsTrue result
+        ↔ (option_map (λ d. domain_tree d.now) first.entry ≡ option_map (λ d. domain_tree d.now) second.entry) }
 {
     match first {
         Some(domain) => match second {
@@ -128,11 +129,11 @@ pub(crate) fn have_same_text(first: &Option<Domain>, second: &Option<Domain>) ->
 /// Whether two rows close at the same seconds from 1901-01-01 to 2699-12-31. A row without a domain always closes.
 pub(crate) fn hold_same(
     alloc: Global,
-    first: &Option<Domain>,
-    second: &Option<Domain>,
+    first: Option<&Domain>,
+    second: Option<&Domain>,
 ) -> Result<bool, AllocError>
     ensures same { IfOk result (λ same. IsTrue same
-        ↔ HoldSame (option_map domain_tree first.now) (option_map domain_tree second.now)) }
+        ↔ HoldSame (option_map (λ d. domain_tree d.now) first.entry) (option_map (λ d. domain_tree d.now) second.entry)) }
 {
     if have_same_text(first, second) {
         return Ok(true);
@@ -150,13 +151,14 @@ fn last_of(span: &Span) -> Sec
 
 /// Whether another row is open at the first or at the last second of a span of a row's seconds, if one is given.
 pub(crate) fn is_end_alone(
-    domain: &Option<Domain>,
-    other: &Option<Domain>,
+    domain: Option<&Domain>,
+    other: Option<&Domain>,
     span: &Option<Span>,
 ) -> bool
-    requires held { IfSome span.now (IsHeldSpan (HoldsAt (option_map domain_tree domain.now))) }
+    requires held { IfSome span.now (IsHeldSpan (HoldsAt (option_map (λ d. domain_tree d.now) domain))) }
     ensures alone { IsTrue result
-        → HoldsWithin (option_map domain_tree domain.now) (option_map domain_tree other.now) → ⊥ }
+        → HoldsWithin (option_map (λ d. domain_tree d.now) domain.entry) (option_map (λ d. domain_tree d.now) other.entry)
+        → ⊥ }
 {
     let Some(span) = span else {
         return false;
@@ -170,11 +172,11 @@ pub(crate) fn is_end_alone(
 /// Whether a row closes at no second from 1901-01-01 to 2699-12-31 at which another does not.
 pub(crate) fn holds_within(
     alloc: Global,
-    domain: &Option<Domain>,
-    other: &Option<Domain>,
+    domain: Option<&Domain>,
+    other: Option<&Domain>,
 ) -> Result<bool, AllocError>
     ensures within { IfOk result (λ within. IsTrue within
-        ↔ HoldsWithin (option_map domain_tree domain.now) (option_map domain_tree other.now)) }
+        ↔ HoldsWithin (option_map (λ d. domain_tree d.now) domain.entry) (option_map (λ d. domain_tree d.now) other.entry)) }
 {
     match other {
         Some(other) => match domain {

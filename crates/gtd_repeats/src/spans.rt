@@ -15,10 +15,10 @@ use std::alloc::{AllocError, Global};
 // The first span of a domain that is given, if it is asked for.
 fn span_of(
     alloc: Global,
-    domain: &Option<Domain>,
+    domain: Option<&Domain>,
     is_asked: bool,
 ) -> Result<Option<Span>, AllocError>
-    ensures held { IfOk result (λ found. IfSome found (IsHeldSpan (HoldsAt (option_map domain_tree domain.now)))) }
+    ensures held { IfOk result (λ found. IfSome found (IsHeldSpan (HoldsAt (option_map (λ d. domain_tree d.now) domain.entry)))) }
 {
     if !is_asked {
         return Ok(None);
@@ -40,7 +40,7 @@ fn span_of_row(
     ensures held { IfOk result (λ found. IfSome found (IsHeldSpan (HoldsAt (row_at rows.now row).domain))) }
 {
     let record = &rows[row];
-    span_of(alloc, &record.domain, first == row)
+    span_of(alloc, record.domain(), first == row)
 }
 
 /// For each row that is the first with its seconds its first span from 2016 to 2043, if there is one.

@@ -130,7 +130,7 @@ fn told_of_record(
         → IfOk result (λ told. IsToldOfRow asked.now number (fields_of row.now) told.items) }
     ensures rows { IfOk result (λ told. All (λ one. one.row ≡ number) told.items) }
 {
-    match &found.domain {
+    match found.domain() {
         Some(domain) => told_of_domain(known, asked, number, domain),
         None => told_of_row(known, asked, number, row),
     }

@@ -11,7 +11,7 @@ use gtd_records::{Record, Records};
 fn repeats(row: &Record) -> bool
     ensures { IsTrue result → (t : ℤ) → HoldsAt row.now.domain t ↔ HoldsAt row.now.domain (t +ℤ pos 604_800) }
 {
-    match &row.domain {
+    match row.domain() {
         None => true,
         Some(domain) => is_weekly(domain),
     }

@@ -14,9 +14,9 @@ longer (Err x) old text new n few e = tt
 pub returns-in_ok-print_domain-in-Some-clause-short :
     goal.returns-in_ok-print_domain-in-Some-clause-short
 returns-in_ok-print_domain-in-Some-clause-short c =
-    let is : c.as_bytes.result.now ≡ canonical (domain_tree c.in-Some.domain) =
+    let is : c.as_bytes.result.now ≡ canonical (domain_tree c.in-Some.domain.now) =
     c.as_bytes.ensures.value ∙ c.in_ok-print_domain-in-Some.ensures.exact in
-    let few = domain_short c.in-Some.domain in
+    let few = domain_short c.in-Some.domain.now in
     let same = ap length is in
     longer c.extend_from_slice.result c.args.line.now.items c.as_bytes.result.now c.extend_from_slice.new.self.items 12925
     (omega arith) c.extend_from_slice.ensures.items

@@ -7,7 +7,7 @@ use Rattle.gtd_repeats.proofs.numbers.number_of.Goals as goal
 pub returns-in-None : goal.returns-in-None
 returns-in-None c =
     let is = c.in-None.is in
-    let e : c.args.domain.now ≡ None = cc in
+    let e : c.args.domain ≡ None = cc in
     let first = c.days_between-years.ensures.first in
     let last = c.days_between-years.ensures.last in
     let all = c.whole.ensures.value in

@@ -12,7 +12,7 @@ returns-else-not-holds c =
     let some = c.from.ensures.not_empty in
     record {
       alone = λ denied all.
-          end_alone (option_map domain_tree c.args.domain.now) c.in-Some-other.other c.in-Some.span
+          end_alone (option_map (λ d. domain_tree d.now) c.args.domain) c.in-Some-other.other.now c.in-Some.span
           c.last_of.result.0 c.holds-else-not-holds.result (rw c.in-Some.is at c.requires.held)
           (omega (arith, ints, some)) (omega (arith, ints, value)) c.holds-else-not-holds.ensures.member denied
           (rw c.in-Some-other.is at all);

@@ -5,4 +5,5 @@ use Rattle.gtd_year.proofs.weekly.repeats.Goals as goal
 
 pub returns-in-Some : goal.returns-in-Some
 returns-in-Some c = λ yes t.
-    rw (← c.row.view_is, c.in-Some.is) (tree-weekly (domain_tree c.in-Some.domain) t (c.is_weekly.ensures.weekly.0 yes))
+    rw (← (rw c.in-Some.is at c.domain.ensures.domain))
+    (tree-weekly (domain_tree c.in-Some.domain.now) t (c.is_weekly.ensures.weekly.0 yes))

@@ -8,6 +8,6 @@ use Rattle.gtd_records.proofs.record.Record.has_domain_of.Goals as goal
 
 pub returns-in-Some-domain : goal.returns-in-Some-domain
 returns-in-Some-domain c = λ t.
-    let same : Some (domain_tree c.in-Some.domain) ≡ Some (domain_tree c.in-Some-domain.other) =
+    let same : Some (domain_tree c.in-Some.domain.now) ≡ Some (domain_tree c.in-Some-domain.other.now) =
     ap (λ (x : Tree). Some x) (tree_equal _ _ (sym c.eq.ensures ∙ t)) in
-    rw (← c.self.view_is, ← c.other.view_is, c.in-Some.is, c.in-Some-domain.is) same
+    sym (rw c.in-Some.is at c.domain.ensures.domain) ∙ same ∙ rw c.in-Some-domain.is at c.domain-in-Some.ensures.domain

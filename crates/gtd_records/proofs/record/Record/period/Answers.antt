@@ -5,6 +5,6 @@ use Rattle.gtd_records.proofs.record.Record.period.Goals as goal
 
 pub returns : goal.returns
 returns c = record {
-  repeats = rw (← c.self.view_is, c.in-Some.is) (found-from c.period_of.result _
-      (domain_tree c.in-Some.domain) c.period_of.ensures.period);
+  repeats = rw (← (rw c.in-Some.is at c.domain.ensures.domain)) (found-from c.period_of.result _
+      (domain_tree c.in-Some.domain.now) c.period_of.ensures.period);
 }
