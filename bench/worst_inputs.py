@@ -387,6 +387,9 @@ def tags_of_ways(folder):
     yield case("a condition of 16 MiB", few, ["1,access:conditional,no @ (", "hazmat AND " * terms, "hazmat)\n"])
     yield case("a value of 16 MiB of parentheses", few, ["1,access:conditional,no @ ", "(" * (MOST_BYTES - 200), "\n"])
     yield case("a value of 16 MiB of semicolons", few, ["1,access:conditional,", ";" * (MOST_BYTES - 200), "\n"])
+    for name, rule in (("with times", "Mo 08:00-09:00, "), ("without times", "week 1-3,")):
+        rules = rule * ((MOST_BYTES - 200) // len(rule))
+        yield case(f"a value of 16 MiB of rules {name}", few, ['1,access:conditional,"no @ (', rules, 'Sa 08:00-09:00)"\n'])
     yield case("65,536 faulty values", few, (f"{n},access:conditional,no @ (8:00\n" for n in range(MOST_ROWS)))
 
 
@@ -410,11 +413,36 @@ def hours_rows(folder):
                [*reversed(each_day), *(f"{year}-12-25,,PH,\n" for year in range(2020, 2031))])
 
 
+def hours_texts(folder):
+    """Files of opening hours with one long text."""
+    table = folder.file("holiday_table", "first,last,kind,name\n2025-01-01,2025-12-31,PH,\n2025-01-01,2025-12-31,SH,\n"
+                        "2025-01-01,2025-12-31,PH-covered,\n2025-01-01,2025-12-31,SH-covered,\n")
+
+    def case(name, front, unit, end="", words=()):
+        text = front + unit * ((MOST_BYTES - 200) // len(unit)) + end
+        path = folder.file(name.replace(" ", "_"), f'element,direction,vehicles,hours\n1,both,0,"{text}"\n')
+        return desk(f"a text of 16 MiB of {name}", ["records", *words, path])
+
+    holidays = ("--holidays", table, "--years", "2025-2025")
+    yield case("rules that are unknown", "Mo 08:00-09:00", " || unknown")
+    yield case("rules that are unknown in capitals", "Mo 08:00-09:00", " || UNKNOWN")
+    yield case("rules that are off", "", "off; ", "Mo 08:00-09:00")
+    yield case("times in rules that are off", "Mo ", "08:00-09:00,", "10:00-11:00 off; Mo 08:00-09:00")
+    yield case("weekdays in rules that are off", "", "Mo,Tu[1],", "We off; Mo 08:00-09:00")
+    yield case("dates in rules that are off", "", "Jan 1,Feb 2-3,", "Mar 3 off; Mo 08:00-09:00")
+    yield case("years in rules that are off", "", "2025,2027-2029,", "2031 off; Mo 08:00-09:00")
+    yield case("holidays", "", "PH,SH,PH +1 day,", "PH off; Mo 08:00-09:00", holidays)
+    yield case("days of Easter", "", "easter,easter +1 day,", "easter off; Mo 08:00-09:00", holidays)
+    yield case("loose tokens", "", "mo,tu,", "we OFF; Mo 8:00-9:00")
+    yield case("spaces", "", " ", "Mo 08:00-09:00")
+    yield case("a comment", "Mo off \"\"", "a", "\"\"; Mo 08:00-09:00")
+
+
 def cases(path):
     """Every case. A file is made when its case is asked for."""
     folder = Folder(path)
     yield from domains()
     yield from words()
     for group in (one_row, one_element, many_elements, states, pictures, rows_in_order, one_field, vehicle_lists,
-                  tags_of_ways, hours_rows):
+                  tags_of_ways, hours_rows, hours_texts):
         yield from group(folder)

@@ -5,7 +5,7 @@ ghost use Rattle.gtd_alike.specs.Alike.{AreFirstAlike};
 ghost use Rattle.gtd_alike.specs.Ready.{AreAlikeAt};
 
 use crate::firsts::{Likeness, firsts_of};
-use gtd_records::{DirectedElement, Records, are_closed_alike, hash_of_closing};
+use gtd_records::{DirectedElement, Records, are_closed_alike, hashes_of_closing};
 use std::alloc::{AllocError, Global};
 
 /// Elements in a direction, with the records of their file. They are alike if they are open at the same seconds.
@@ -31,7 +31,7 @@ impl Likeness for Elements<'_> {
 
     fn hash(&self, at: usize) -> u32 {
         match self.asked.get(at) {
-            Some(one) => hash_of_closing(self.found, *one, self.vehicle),
+            Some(one) => hashes_of_closing(self.found, one.element, self.vehicle).of(one.direction),
             None => 0,
         }
     }

@@ -1,6 +1,6 @@
 -- Steps that later ones override do nothing.
-use Rattle.std.proofs.Common.{◌≡◌, ◌<◌, ◌≤◌, ◌+◌, ◌-◌, ◌⊎◌, ◌∷◌, ◌++◌, ◌∙◌, ℕ, List, None, Bool, true, false, drop, take, set, length, get_or}
-use Rattle.std.proofs.Common.{refl, sym, ap, arith, inl, inr, if◌then◌else◌}
+use Rattle.std.proofs.Common.{◌≡◌, ◌<◌, ◌≤◌, ◌+◌, ◌-◌, ◌⊎◌, ◌∷◌, ◌++◌, ◌∙◌, ℕ, List, None, Bool, false, drop, take, set}
+use Rattle.std.proofs.Common.{get_or, length, refl, sym, ap, arith, inl, inr, if◌then◌else◌}
 use Rattle.std.specs.List.{swap}
 use Rattle.std.proofs.lemmas.List.{append-nil, drop-set, drop-set-lt, drop_all, drop_more, get_or-take, length-set, take-set-le}
 use Rattle.std.proofs.lemmas.List.{take-take, take_all, take_rest}
@@ -11,6 +11,7 @@ use Rattle.gtd_conditional_rows.specs.Types.{HasType, IsVehicle, has_type}
 use Rattle.gtd_conditional_rows.specs.declared.step.Step.{Step}
 use Rattle.gtd_conditional_rows.specs.declared.types.Types.{Types}
 use Rattle.gtd_conditional_rows.proofs.SizeLemmas.{whole-step}
+use Rattle.gtd_conditional_rows.proofs.TypeLemmas.{either}
 
 -- ---- where they stand
 
@@ -59,10 +60,6 @@ module _ (xs : List Step) (p k : ℕ) (s : Step) (le : p ≤ k) (lt : k < length
 by-none : (step : Step) (t : ℕ) (times : Times) → has_type step.types t ≡ false → times_by step t times ≡ times
 by-none step t times e =
     ap (λ (b : Bool). if b then said step.access step.hours times else times) e
-
-either : (b : Bool) → (b ≡ true) ⊎ (b ≡ false)
-either true = inl refl
-either false = inr refl
 
 module _ (all steps : List Step) (p first : ℕ) (settled : Types) (s : Step) (lt : p < first)
     (so : AreEffective all steps (p + 1) first settled) (is : s ≡ get_or steps p s) where
@@ -137,8 +134,8 @@ written-back : (items near : List Step) (n : ℕ) → length near ≡ length ite
     → take n (near ++ drop (length near) items) ≡ near
 written-back items near n long le =
     let few : length items ≤ length near = omega (arith, long) in
-    ap (λ (l : List Step). take n (near ++ l)) (drop_all (length near) items few) ∙ ap (λ (l : List Step). take n l) (append-nil near)
-    ∙ take_all n near le
+    ap (λ (l : List Step). take n (near ++ l)) (drop_all (length near) items few)
+    ∙ ap (λ (l : List Step). take n l) (append-nil near) ∙ take_all n near le
 
 -- what is left at the end of a list that was lent does the same
 pub left-same : (items near given left : List Step) (n first : ℕ) → length near ≡ length items → length near ≤ n → given ≡ items

@@ -19,7 +19,7 @@ use Rattle.gtd_conditional_rows.specs.Types.{HasType, IsVehicle}
 use Rattle.gtd_conditional_rows.specs.declared.row.Row.{Row}
 use Rattle.gtd_conditional_rows.specs.declared.step.Step.{Step}
 use Rattle.gtd_conditional_rows.proofs.ClosedLemmas.{times-closed}
-use Rattle.gtd_conditional_rows.proofs.TypeLemmas.{row-same, same-row}
+use Rattle.gtd_conditional_rows.proofs.TypeLemmas.{either, row-same, same-row}
 
 -- the row is one of them
 abbrev IsIn : Row → List Row → Type 0
@@ -258,10 +258,6 @@ module _ (t : ℕ) (s : ℤ) (vehicle : IsVehicle t) where
   -- rows of groups have no type in common
   groups-once : (steps : List Step) (rows : List Row) → AreGroups steps rows → AtMostOne (λ row. HasType row.types t) rows
   groups-once steps rows g = ordered-once steps 0 rows g.each g.ordered t vehicle
-
-  either : (b : Bool) → (b ≡ true) ⊎ (b ≡ false)
-  either true = inl refl
-  either false = inr refl
 
   module _ (positive negative : List Step) (rows : List Row) (are : AreRows positive negative rows) where
     abbrev Closes : Direction → Row → Type 0

@@ -1,5 +1,5 @@
 -- Sets of vehicle types, as lists of flags, and domains that are the same.
-use Rattle.std.proofs.Common.{◌≡◌, ◌↔◌, ℕ, Bool, true, false, List, [], ◌∷◌, Option, Some, None, refl, sym, ap, ◌∙◌}
+use Rattle.std.proofs.Common.{◌≡◌, ◌↔◌, ◌⊎◌, ℕ, Bool, true, false, List, [], ◌∷◌, Option, Some, None, refl, sym, ap, ◌∙◌}
 use Rattle.std.proofs.Common.{get_or, inl, inr, IsTrue}
 use Rattle.std.proofs.Math.ListN.{replicate}
 use Rattle.std.proofs.lemmas.Bool.{cases_lt, and_parts, and_from}
@@ -67,6 +67,11 @@ pub same-row : (a b : Row) → a.types.has ≡ b.types.has → domain_times a.do
 same-row a b has domain =
     let flags : same_flags a.types.has b.types.has ≡ true = rw has (same-flags b.types.has) in
     and_from (same_flags a.types.has b.types.has) (same_domain a.domain b.domain) flags (same-domain _ _ domain)
+
+-- a flag is true or false
+pub either : (b : Bool) → (b ≡ true) ⊎ (b ≡ false)
+either true = inl refl
+either false = inr refl
 
 -- no type
 pub none-has : (n t : ℕ) → IsTrue (get_or (replicate n false) t false) → ⊥

@@ -42,12 +42,17 @@ fn lowest_like(numbers: &[u32; 100], vehicle: u8) -> u8
     vehicle
 }
 
-// What the numbers of vehicle types say. Whether it holds is seen afterwards.
+// What the numbers of vehicle types say. Whether it holds is seen afterwards. Most types are as the one before.
 fn guessed(steps: &[Step]) -> Alike {
     let numbers = numbers_of(steps);
     let mut first = [0; 100];
+    let mut before = 0;
     for vehicle in 1..100 {
-        first[usize::from(vehicle)] = lowest_like(&numbers, vehicle);
+        let place = usize::from(vehicle);
+        if before == 0 || numbers[place] != numbers[place - 1] {
+            before = lowest_like(&numbers, vehicle);
+        }
+        first[place] = before;
     }
     Alike { first }
 }

@@ -7,7 +7,7 @@ ghost use Rattle.gtd_conditional_rows.specs.Times.{NeedsTooMany, leaves_in, size
 ghost use Rattle.gtd_conditional_rows.specs.Types.{IsVehicle};
 ghost use Rattle.gtd_conditional_rows.specs.declared.count.Size.TheVariants as size;
 
-use crate::alike::{Alike, alike_in};
+use crate::alike::Alike;
 use crate::expr::{leaves, sum};
 use crate::step::Step;
 use gtd_conditional_means::Access;
@@ -117,11 +117,4 @@ pub(crate) fn need_too_many(steps: &[Step], alike: &Alike) -> bool
         }
     }
     false
-}
-
-/// Whether some vehicle type needs more than 128 basic domains. No memory is taken.
-pub fn needs_too_many(steps: &[Step]) -> bool
-    ensures { IsTrue result ↔ NeedsTooMany steps.now }
-{
-    need_too_many(steps, &alike_in(steps))
 }

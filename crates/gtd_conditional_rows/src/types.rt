@@ -12,6 +12,7 @@ pub struct Types {
     ghost no_type: { slice_index_or has 0 false ≡ false },
 }
 
+// Sets are compared without a branch, by `&` and `|` in place of `&&` and `||`, so that many types are at once.
 impl Types {
     ghost use Rattle.std.specs.Prelude.{◌≡◌, ◌↔◌, ◌⊎◌, ℕ, IsTrue};
     ghost use Rattle.gtd_conditional_rows.specs.Types.{HasType, IsVehicle, has_type, same_flags};
@@ -47,7 +48,7 @@ impl Types {
     {
         let mut has = [false; 100];
         for vehicle in 1..100 {
-            has[vehicle] = self.has[vehicle] && other.has[vehicle];
+            has[vehicle] = self.has[vehicle] & other.has[vehicle];
         }
         Types { has }
     }
@@ -69,18 +70,18 @@ impl Types {
     {
         let mut has = [false; 100];
         for vehicle in 1..100 {
-            has[vehicle] = self.has[vehicle] || other.has[vehicle];
+            has[vehicle] = self.has[vehicle] | other.has[vehicle];
         }
         Types { has }
     }
 
-    // Whether all types are in another set. All are looked at, so that many are at once.
+    // Whether all types are in another set.
     pub(crate) fn are_in(&self, other: &Types) -> bool
         ensures { IsTrue result ↔ ((t : ℕ) → IsVehicle t → HasType self.now t → HasType other.now t) }
     {
         let mut all = true;
         for vehicle in 1..100 {
-            all = all && (!self.has[vehicle] || other.has[vehicle]);
+            all = all & (!self.has[vehicle] | other.has[vehicle]);
         }
         all
     }

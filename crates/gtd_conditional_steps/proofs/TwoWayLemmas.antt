@@ -153,6 +153,7 @@ two-way-steps tags are subject rows steps of =
 pub two-way-closed : (tags : List Tag) → AreTwoWay tags → (subject : Subject) (rows : List MeansRow) (t : ℕ) (s : ℤ)
     → IsClosedByTags rows subject tags Positive t s ↔ IsClosedByTags rows subject tags Negative t s
 two-way-closed tags are subject rows t s =
-    subst (λ (l : List Saying). IsClosedBy rows Positive (said_by subject rows Positive tags) t s ↔ IsClosedBy rows Negative l t s)
+    subst
+    (λ (l : List Saying). IsClosedBy rows Positive (said_by subject rows Positive tags) t s ↔ IsClosedBy rows Negative l t s)
     (said-same subject rows tags are)
     (other-closed rows (said_by subject rows Positive tags) t s (each-before (length rows) subject rows Positive tags are))

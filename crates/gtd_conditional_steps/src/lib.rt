@@ -1,8 +1,8 @@
 //! What the tags of a way say, as steps that close and open it.
 //!
-//! [`steps_of`] answers the steps of a direction, of which `gtd_conditional_rows` makes rows. [`are_two_way`] is whether the steps
-//! of both directions are the same, and [`needs_too_many`] whether the hours of a value need more basic domains than a domain may
-//! have.
+//! [`steps_of`] answers the steps of a direction, of which `gtd_conditional_rows` makes rows. [`are_two_way`] is whether the
+//! steps of both directions are the same, and [`needs_too_many`] whether the hours of a value need more basic domains than a
+//! domain may have.
 #![tactic(auto)]
 
 pub use count::needs_too_many;

@@ -13,7 +13,7 @@ use Rattle.gtd_hours_holidays.specs.declared.known_years.KnownYears.{KnownYears}
 use Rattle.gtd_hours_holidays.specs.declared.row.HolidayKind.{HolidayKind}
 use Rattle.gtd_hours_holidays.specs.declared.row.HolidayRow.{HolidayRow}
 use Rattle.gtd_hours_days.specs.Beginning.{IsBegun}
-use Rattle.gtd_hours_days.specs.Listed.{IsEasterSunday, IsKnownHoliday, IsListed, SomeListed}
+use Rattle.gtd_hours_days.specs.Listed.{HasAlike, IsEasterSunday, IsKnownHoliday, IsListed, SomeListed}
 use Rattle.gtd_hours_days.specs.Parts.{IsNear}
 use Rattle.gtd_hours_days.specs.declared.listed.Listed.{Listed}
 use Rattle.gtd_hours_days.specs.declared.listed.Listed.TheVariants.{Public, School, Easter}
@@ -352,6 +352,32 @@ pub not_moved : (P : ℤ → Type 0) (IsNew IsOld : ℤ → Type 0) → ((n : �
     → (n : ℤ) → IsNew n ↔ (IsOld n ⊎ P n)
 not_moved P IsNew IsOld added n =
     let e : n -ℤ pos 0 ≡ n = omega (arith, signed_arith) in rw e at (added n)
+
+-- a selector of which one before is like it adds no days
+pub listed_again : (rows : List HolidayRow) (years : KnownYears) (so_far : List Listed) (listed : Listed)
+    (IsMid : ℤ → Type 0) → ((n : ℤ) → IsMid n ↔ SomeListed rows years so_far n) → HasAlike so_far listed
+    → (n : ℤ) → IsMid n ↔ SomeListed rows years (so_far ++ listed ∷ []) n
+listed_again rows years so_far listed IsMid mid has n = (
+  (λ h. still so_far ((mid n).0 h)),
+  (λ h. (mid n).1 (elim (which so_far h) [ inl x ↦ x | inr x ↦ again so_far has x ])),
+)
+  where
+    still : (xs : List Listed) → SomeListed rows years xs n → SomeListed rows years (xs ++ listed ∷ []) n
+    still [] h = absurd h
+    still (x ∷ xs) (inl h) = inl h
+    still (x ∷ xs) (inr h) = inr (still xs h)
+
+    again : (xs : List Listed) → HasAlike xs listed → IsListed rows years listed n → SomeListed rows years xs n
+    again [] like h = absurd like
+    again (x ∷ xs) (inl alike) h = inl (alike.days rows years n h)
+    again (x ∷ xs) (inr more) h = inr (again xs more h)
+
+    which : (xs : List Listed) → SomeListed rows years (xs ++ listed ∷ []) n
+        → SomeListed rows years xs n ⊎ IsListed rows years listed n
+    which [] (inl h) = inr h
+    which [] (inr h) = absurd h
+    which (x ∷ xs) (inl h) = inl (inl h)
+    which (x ∷ xs) (inr h) = elim (which xs h) [ inl k ↦ inl (inr k) | inr k ↦ inr k ]
 
 pub listed_more : (rows : List HolidayRow) (years : KnownYears) (so_far : List Listed) (listed : Listed)
     (IsNew IsMid : ℤ → Type 0) → ((n : ℤ) → IsMid n ↔ SomeListed rows years so_far n)

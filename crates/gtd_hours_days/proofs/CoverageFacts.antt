@@ -1,6 +1,6 @@
 -- What a table of holidays must say for selectors.
 use Rattle.std.proofs.Common.{◌≡◌, subst, arith, ◌<◌, ◌+◌, ℕ, zero, suc, List, [], ◌∷◌, ◌++◌}
-use Rattle.std.proofs.Common.{length, take, get_or, Some, ℤ, pos, ◌+ℤ◌}
+use Rattle.std.proofs.Common.{length, take, get_or, inl, inr, sym, Some, ℤ, pos, ◌+ℤ◌}
 use Rattle.gtd_calendar.specs.facts.Signed.{signed_arith}
 use Rattle.gtd_calendar.specs.Calendar.{first_day}
 use Rattle.gtd_hours_holidays.specs.Days.{AreAll, IsFirstWithout}
@@ -8,7 +8,7 @@ use Rattle.gtd_hours_holidays.specs.Table.{IsCovered}
 use Rattle.gtd_hours_holidays.specs.declared.known_years.KnownYears.{KnownYears}
 use Rattle.gtd_hours_holidays.specs.declared.row.HolidayKind.{HolidayKind}
 use Rattle.gtd_hours_holidays.specs.declared.row.HolidayRow.{HolidayRow}
-use Rattle.gtd_hours_days.specs.Listed.{CoversAll, CoversYears, IsFirstUncovered, IsUncovered, kind_of}
+use Rattle.gtd_hours_days.specs.Listed.{CoversAll, CoversYears, HasAlike, IsAlike, IsFirstUncovered, IsUncovered, kind_of}
 use Rattle.gtd_hours_days.specs.declared.listed.Listed.{Listed}
 
 module _ (rows : List HolidayRow) (years : KnownYears) (kind : HolidayKind) (first last : ℤ)
@@ -39,6 +39,21 @@ covers_more rows years (x ∷ xs) listed all is = (all.0, covers_more rows years
 abbrev pub IsMissing : List HolidayRow → KnownYears → Listed → ℤ → Type 0
 IsMissing rows years listed day =
     (kind : HolidayKind) × (kind_of listed ≡ Some kind) × IsFirstUncovered rows years kind day
+
+-- a selector of which one before is like it
+pub covers_again : (rows : List HolidayRow) (years : KnownYears) (so_far : List Listed) (listed : Listed)
+    → CoversAll rows years so_far → HasAlike so_far listed → CoversYears rows years (kind_of listed)
+covers_again rows years [] listed all is = absurd is
+covers_again rows years (x ∷ xs) listed all (inl alike) = subst (CoversYears rows years) (sym alike.kind) all.0
+covers_again rows years (x ∷ xs) listed all (inr more) = covers_again rows years xs listed all.1 more
+
+pub alike_at : (xs : List Listed) (place earlier : ℕ) (one other : Listed) → earlier < place → place < length xs
+    → other ≡ get_or xs earlier other → IsAlike one other → HasAlike (take place xs) one
+alike_at [] place earlier one other lt within at is = absurd (omega (arith, within))
+alike_at (x ∷ xs) zero earlier one other lt within at is = absurd (omega (arith, lt))
+alike_at (x ∷ xs) (suc place) zero one other lt within at is = inl (subst (IsAlike one) at is)
+alike_at (x ∷ xs) (suc place) (suc earlier) one other lt within at is =
+    inr (alike_at xs place earlier one other (omega (arith, lt)) (omega (arith, within)) at is)
 
 -- the first selector for which a day is missing
 pub uncovered_at : (rows : List HolidayRow) (years : KnownYears) (xs : List Listed) (place : ℕ) (listed : Listed) (day : ℤ)

@@ -51,6 +51,16 @@ abbrev pub CoversYears : List HolidayRow → KnownYears → Option HolidayKind �
 CoversYears rows years None = ⊤
 CoversYears rows years (Some kind) = (n : ℤ) → IsOfYears years.first years.last n → IsCovered rows kind n
 
+-- The selectors are of the same kind, and hold on the same days.
+pub record IsAlike (one other : Listed) : Type 0 where
+  pub kind : kind_of one ≡ kind_of other
+  pub days : (rows : List HolidayRow) (years : KnownYears) (n : ℤ) → IsListed rows years one n → IsListed rows years other n
+
+-- one of them is like this one
+abbrev pub HasAlike : List Listed → Listed → Type 0
+HasAlike [] one = ⊥
+HasAlike (x ∷ xs) one = IsAlike one x ⊎ HasAlike xs one
+
 -- it does for each of the selectors
 abbrev pub CoversAll : List HolidayRow → KnownYears → List Listed → Type 0
 CoversAll rows years [] = ⊤

@@ -5,6 +5,7 @@ ghost use Rattle.gtd_hours_holidays.specs.declared.row.HolidayKind.{HolidayKind}
 ghost use Rattle.gtd_hours_days.specs.Listed.{CoversAll, CoversYears, IsFirstUncovered, IsUncovered, kind_of};
 
 use crate::listed::Listed;
+use crate::repeats::Latest;
 use gtd_hours_holidays::{HolidayKind, Holidays, KnownYears};
 
 /// A day that matters, and on which a table of holidays does not say all of them.
@@ -60,7 +61,11 @@ pub fn first_uncovered(
     ensures first { MatchOption result (CoversAll holidays.now.rows.items years listed.now)
         (λ found. IsUncovered holidays.now.rows.items years listed.now found.place found.day) }
 {
+    let mut latest = Latest::new();
     for place in 0..listed.len() {
+        if latest.is_repeated(listed, place) {
+            continue;
+        }
         match first_for(holidays, years, listed[place]) {
             Some(day) => return Some(Uncovered { place, day }),
             None => {}

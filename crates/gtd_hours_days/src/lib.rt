@@ -24,6 +24,7 @@ pub mod laws;
 mod listed;
 mod offset;
 mod order;
+mod repeats;
 mod selection;
 mod split;
 mod yearly;

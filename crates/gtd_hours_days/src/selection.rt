@@ -10,6 +10,7 @@ use crate::additions::add_listed;
 use crate::coverage::{Uncovered, first_uncovered};
 use crate::grouping::{Grouping, grouping_of};
 use crate::listed::Listed;
+use crate::repeats::Latest;
 use gtd_hours_holidays::{Days, HolidayRow, Holidays, KnownYears};
 use std::alloc::{AllocError, Global};
 
@@ -51,8 +52,12 @@ fn marked(
     ensures { IfOk result (λ days. (n : ℤ) → IsIn days n ↔ SomeListed rows.now years listed.now n) }
 {
     let mut days = Days::new(alloc, begin_of(years));
-    for selector in listed {
-        add_listed(&mut days, rows, years, *selector)?;
+    let mut latest = Latest::new();
+    for place in 0..listed.len() {
+        if latest.is_repeated(listed, place) {
+            continue;
+        }
+        add_listed(&mut days, rows, years, listed[place])?;
     }
     Ok(days)
 }

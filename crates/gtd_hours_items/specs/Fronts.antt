@@ -1,6 +1,6 @@
 -- Where a range of days that moves, or Easter of a year, can begin among the tokens of a text. A single year directly before its
--- month or `easter` belongs to it; a number in a list or a range of years or of weeks, or in brackets, does not. What ends a range
--- begins none.
+-- month or `easter` belongs to it; a number in a list or a range of years or of weeks, or in brackets, does not. What ends a
+-- range begins none.
 use Rattle.std.specs.Prelude.{◌≡◌, ℕ, ◌==◌, Bool, true, false, if◌then◌else◌, List, [], ◌∷◌, Option, Some, None}
 use Rattle.gtd_hours_moving.specs.Moving.{IsMovingFront}
 use Rattle.gtd_hours_moving.specs.declared.front.MovingFront.{MovingFront}

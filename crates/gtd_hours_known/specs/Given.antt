@@ -1,8 +1,10 @@
 -- What the holidays, the days of Easter and the years without a last one of a text need and is not given: a table, and years.
-use Rattle.std.specs.Prelude.{◌≡◌, ℕ, ◌&&◌, ◌||◌, Bool, true, false, if◌then◌else◌, List, [], ◌∷◌, drop, Option, Some, None}
+use Rattle.std.specs.Prelude.{◌≡◌, ℕ, ◌&&◌, ◌||◌, Bool, true, false, if◌then◌else◌, List, [], ◌∷◌, drop}
+use Rattle.std.specs.Prelude.{IsTrue, Option, Some, None}
 use Rattle.gtd_hours_days.specs.Listed.{kind_of}
 use Rattle.gtd_hours_days.specs.declared.listed.EasterDays.{EasterDays}
 use Rattle.gtd_hours_days.specs.declared.listed.Listed.{Listed}
+use Rattle.gtd_hours_days.specs.declared.listed.Listed.TheVariants.{Public, School, Easter}
 use Rattle.gtd_hours_holidays.specs.declared.holidays.Holidays.{Holidays}
 use Rattle.gtd_hours_holidays.specs.declared.known_years.KnownYears.{KnownYears}
 use Rattle.gtd_hours_holidays.specs.declared.row.HolidayKind.{HolidayKind}
@@ -12,6 +14,7 @@ use Rattle.gtd_hours_holiday_rules.specs.declared.rules.HolidayRule.{HolidayRule
 use Rattle.gtd_hours_known.specs.Rules.{first_place}
 use Rattle.gtd_hours_known.specs.declared.fault.KnownFault.{KnownFault}
 use Rattle.gtd_hours_known.specs.declared.fault.KnownFault.TheVariants as fault
+use Rattle.gtd_hours_known.specs.declared.given.Seen.{Seen}
 use Rattle.gtd_hours_known.specs.declared.known.Known.{Known}
 
 -- the two kinds are the same
@@ -76,3 +79,15 @@ rule_lacks known rule =
 abbrev pub AreAllGiven : Known → List HolidayRule → Type 0
 AreAllGiven known [] = Unit {0}
 AreAllGiven known (rule ∷ rules) = (rule_lacks known rule ≡ None) × AreAllGiven known rules
+
+-- ---- as the code goes
+
+-- it is seen that all is given for holidays of this kind
+abbrev pub is_seen : Seen → Listed → Bool
+is_seen seen (Public offset) = seen.public
+is_seen seen School = seen.school
+is_seen seen (Easter days) = false
+
+-- and so it is
+abbrev pub AreSeen : Known → Seen → Type 0
+AreSeen known seen = (h : Listed) (place : ℕ) → IsTrue (is_seen seen h) → not_given known h place ≡ None

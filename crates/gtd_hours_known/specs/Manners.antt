@@ -1,5 +1,5 @@
 -- The hours of a text with holidays, comments, unknown and fallback rules, where it is read strictly or loosely.
-use Rattle.std.specs.Prelude.{◌≡◌, ℕ, List, [], ◌∷◌, length, Option, Some, None}
+use Rattle.std.specs.Prelude.{◌≡◌, ℕ, List, [], length, map, Option, Some, None}
 use Rattle.gtd_hours_text.specs.Standing.{StandsFor}
 use Rattle.gtd_hours_loose.specs.Mending.{written_place}
 use Rattle.gtd_hours_loose.specs.Reading.{IsStrict}
@@ -42,8 +42,7 @@ placed_holiday end parts None = None
 
 -- other places
 abbrev pub placed_places : ℕ → List Part → List ℕ → List ℕ
-placed_places end parts [] = []
-placed_places end parts (place ∷ places) = written_place place end parts ∷ placed_places end parts places
+placed_places end parts places = map (λ (place : ℕ). written_place place end parts) places
 
 -- The hours of a text are those of its strict form, and all places are where that is written in its so many bytes.
 pub record IsPlaced (end : ℕ) (form : StrictForm) (own read : KnownHours) : Type 0 where

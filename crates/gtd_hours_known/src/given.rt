@@ -1,9 +1,10 @@
 //! What the holidays, the days of Easter and the years without a last one of a text need and is not given: a table, and years.
 
-ghost use Rattle.std.specs.Prelude.{◌≡◌, drop};
+ghost use Rattle.std.specs.Prelude.{◌≡◌, ◌⊎◌, IsTrue, drop};
 ghost use Rattle.gtd_hours_days.specs.Listed.{kind_of};
+ghost use Rattle.gtd_hours_days.specs.declared.listed.Listed.{Listed};
 ghost use Rattle.gtd_hours_known.specs.Given.{covers, covers_some, has_table, is_kind, no_years, none_given};
-ghost use Rattle.gtd_hours_known.specs.Given.{no_easter_years, no_last_year, not_given, rule_lacks};
+ghost use Rattle.gtd_hours_known.specs.Given.{AreSeen, is_seen, no_easter_years, no_last_year, not_given, rule_lacks};
 ghost use Rattle.gtd_hours_known.specs.Rules.{first_place};
 
 use crate::fault::KnownFault;
@@ -104,6 +105,51 @@ fn not_given(known: &Known, holiday: Listed, place: usize) -> Option<KnownFault>
     }
 }
 
+// Of which kinds of holidays it is seen that all is given, so that the table is not gone through for each holiday of a list.
+#[derive(Clone, Copy)]
+struct Seen {
+    public: bool,
+    school: bool,
+}
+
+fn is_seen(seen: Seen, holiday: Listed) -> bool
+    ensures { result ≡ is_seen seen holiday }
+{
+    match holiday {
+        Listed::Public { offset: _ } => seen.public,
+        Listed::School => seen.school,
+        Listed::Easter(_) => false,
+    }
+}
+
+// The kind of a holiday is seen, too.
+fn seen_with(seen: Seen, holiday: Listed) -> Seen
+    ensures { (h : Listed) → IsTrue (is_seen result h) → IsTrue (is_seen seen h) ⊎ (kind_of holiday ≡ kind_of h) }
+{
+    match holiday {
+        Listed::Public { offset: _ } => Seen {
+            public: true,
+            ..seen
+        },
+        Listed::School => Seen {
+            school: true,
+            ..seen
+        },
+        Listed::Easter(_) => seen,
+    }
+}
+
+// What is not given for a holiday that stands at a place. It is not asked again for a kind that is seen.
+fn lacks(known: &Known, seen: Seen, holiday: Listed, place: usize) -> Option<KnownFault>
+    requires { AreSeen known.now seen }
+    ensures { result ≡ not_given known.now holiday place }
+{
+    if is_seen(seen, holiday) {
+        return None;
+    }
+    not_given(known, holiday, place)
+}
+
 // What is not given for the first of some holidays at these places for which something is not: a table of such holidays, or
 // else the years.
 fn none_given(known: &Known, holidays: &[Listed], places: &[usize]) -> Option<KnownFault>
@@ -111,10 +157,15 @@ fn none_given(known: &Known, holidays: &[Listed], places: &[usize]) -> Option<Kn
 {
     let mut rest = holidays;
     let mut at = places;
+    let mut seen = Seen {
+        public: false,
+        school: false,
+    };
     while let Some((holiday, more)) = rest.split_first() {
-        if let Some(bad) = not_given(known, *holiday, first_place(at)) {
+        if let Some(bad) = lacks(known, seen, *holiday, first_place(at)) {
             return Some(bad);
         }
+        seen = seen_with(seen, *holiday);
         rest = more;
         at = later_places(at);
     }

@@ -4,14 +4,14 @@ ghost use Rattle.std.specs.Prelude.{◌≡◌, IfErr, IfOk};
 ghost use Rattle.gtd_hours_loose.specs.Reading.{IsStrict};
 ghost use Rattle.gtd_hours_known.specs.Manners.{IsKnownLooseReading, IsKnownLooseStop, IsKnownReadFaultIn};
 ghost use Rattle.gtd_hours_known.specs.Manners.{IsKnownReadingIn, IsMendedStop, IsPlaced};
-ghost use Rattle.gtd_hours_known.specs.Manners.{no_form, placed, placed_fault, placed_holiday, placed_places, token_fault};
+ghost use Rattle.gtd_hours_known.specs.Manners.{no_form, placed, placed_fault, placed_holiday, token_fault};
 
 use crate::fault::{KnownFault, KnownReadFault};
 use crate::known::{Known, KnownHours};
 use crate::marks::without_marks;
 use crate::reader::read_known_hours;
 use gtd_hours_grammar::{FaultKind, HoursFault};
-use gtd_hours_loose::{Manner, Part, StrictForm, strict_form, written_place};
+use gtd_hours_loose::{Manner, Part, StrictForm, strict_form, written_place, written_places};
 use gtd_hours_loose_tokens::{DayNames, LooseStop, TokenFault};
 use gtd_hours_text::{HoursTextFault, read_hours};
 use std::alloc::{AllocError, Global};
@@ -149,24 +149,6 @@ fn placed_holiday(end: usize, parts: &[Part], first: Option<usize>) -> Option<us
     }
 }
 
-// Places of the strict form, in the text.
-fn placed_places(
-    alloc: Global,
-    end: usize,
-    parts: &[Part],
-    places: &[usize],
-) -> Result<Vec<usize>, AllocError>
-    ensures { IfOk result (λ made. made.items ≡ placed_places end parts.now places.now) }
-{
-    let mut made = Vec::new(alloc);
-    let mut rest = places;
-    while let Some((place, more)) = rest.split_first() {
-        made.push(written_place(*place, end, parts))?;
-        rest = more;
-    }
-    Ok(made)
-}
-
 /// The hours of a text with so many bytes by those of its strict form: all places are where that is written in the text.
 /// `AllocError` is answered only if memory was refused.
 pub fn placed_read(
@@ -179,8 +161,8 @@ pub fn placed_read(
 {
     let parts = form.parts.as_slice();
     let first_holiday = placed_holiday(end, parts, read.first_holiday);
-    let remarks = placed_places(alloc, end, parts, read.remarks.as_slice())?;
-    let unknowns = placed_places(alloc, end, parts, read.unknowns.as_slice())?;
+    let remarks = written_places(alloc, read.remarks.as_slice(), end, parts)?;
+    let unknowns = written_places(alloc, read.unknowns.as_slice(), end, parts)?;
     Ok(KnownHours {
         hours: read.hours,
         form: Some(form),

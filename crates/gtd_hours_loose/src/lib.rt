@@ -15,6 +15,6 @@ mod strict;
 pub use manner::{Manner, read_hours_in};
 pub use mending::strict_form;
 pub use pairs::pair_fault;
-pub use places::{is_loose, strict_place, written_place};
+pub use places::{is_loose, strict_place, written_place, written_places};
 pub use reader::{LooseFault, LooseHours, LooseReadFault, read_loose_hours};
 pub use strict::{Part, StrictForm, stretch};

@@ -17,7 +17,6 @@ use Rattle.gtd_hours_moments.specs.declared.times.TimeToken.{TimeToken}
 use Rattle.gtd_hours_known.specs.Manners.{token_fault}
 use Rattle.gtd_hours_known.specs.declared.fault.KnownFault.TheVariants as fault
 use Rattle.gtd_hours_loose.specs.StrictForms.{IsStrictForm}
-use Rattle.gtd_hours_loose.specs.declared.behind.Behind.{Behind}
 use Rattle.gtd_hours_loose.specs.declared.manner.Manner.TheVariants as manner
 use Rattle.gtd_hours_loose.specs.declared.strict.StrictForm.{StrictForm}
 use Rattle.gtd_hours_loose_tokens.specs.declared.token.DayNames.{DayNames}

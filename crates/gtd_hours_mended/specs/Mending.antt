@@ -154,8 +154,8 @@ abbrev pub IsCheckedStop : List ℕ → OptionsReadFault → Type 0
 IsCheckedStop checked (reading.Fault bad) = IsCheckedFault checked bad
 IsCheckedStop checked reading.NoMemory = Unit {0}
 
--- Why a text has no mended text as it is written: its first fault. The other two are of texts that are not at fault, and no text is
--- known that has one of them.
+-- Why a text has no mended text as it is written: its first fault. The other two are of texts that are not at fault, and no text
+-- is known that has one of them.
 pub data IsUnmended (text : List ℕ) (bad : OptionsFault) : Type 0 where
   faulty : IsFaulty text bad → IsUnmended text bad
   token : (place : ℕ) → IsSound text → IsTimeFault text place → bad ≡ bad_token place → IsUnmended text bad

@@ -27,7 +27,7 @@ mod written;
 pub use clocks::Clocks;
 pub use moment::{Event, Moment, TimeForm};
 pub use needs::{Need, NeedKind, first_need, too_long};
-pub use placed::{Placed, PlacedText, written_place};
+pub use placed::{Placed, PlacedText, written_place, written_places};
 pub use plain::plain_text;
 pub use stop::NoMomentText;
 pub use text::{MomentText, moment_text};

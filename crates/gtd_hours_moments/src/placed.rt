@@ -1,6 +1,6 @@
 //! Texts of which each form has a place in another text.
 
-ghost use Rattle.std.specs.Prelude.{◌≡◌, ◌++◌, ◌∷◌, [], List, OnOk};
+ghost use Rattle.std.specs.Prelude.{◌≡◌, ◌++◌, ◌∷◌, ◌≤◌, [], ℕ, List, map, IfOk, OnOk};
 ghost use Rattle.gtd_hours_moments.specs.Places.{Holds, Put, written_place};
 
 use std::alloc::{AllocError, Global};
@@ -57,4 +57,56 @@ pub fn written_place(place: usize, end: usize, places: &[Placed]) -> usize
         rest = later;
     }
     end
+}
+
+// The forms from the first one on that does not begin before a place.
+fn forms_from(place: usize, places: &[Placed]) -> &[Placed]
+    ensures { (p end : ℕ) → place ≤ p → written_place p end result.now ≡ written_place p end places.now }
+{
+    let mut rest = places;
+    while let Some((form, later)) = rest.split_first() {
+        if place <= form.start {
+            return rest;
+        }
+        rest = later;
+    }
+    rest
+}
+
+// The same, where the forms are known from an earlier place on. If this place is before it, all are gone through again.
+fn forms_near<'a>(
+    place: usize,
+    earlier: usize,
+    known: &'a [Placed],
+    places: &'a [Placed],
+) -> &'a [Placed]
+    requires { (p end : ℕ) → earlier ≤ p → written_place p end known.now ≡ written_place p end places.now }
+    ensures { (p end : ℕ) → place ≤ p → written_place p end result.now ≡ written_place p end places.now }
+{
+    if place < earlier {
+        return forms_from(place, places);
+    }
+    forms_from(place, known)
+}
+
+/// Where in the text that is written for which forms stand, each as by [`written_place`]. If the places at which they begin ascend,
+/// the forms are gone through once. `AllocError` is answered only if memory was refused.
+pub fn written_places(
+    alloc: Global,
+    begins: &[usize],
+    end: usize,
+    places: &[Placed],
+) -> Result<Vec<usize>, AllocError>
+    ensures { IfOk result (λ made. made.items ≡ map (λ place. written_place place end places.now) begins.now) }
+{
+    let mut made = Vec::with_capacity(alloc, begins.len())?;
+    let (mut earlier, mut known) = (0, places);
+    let mut rest = begins;
+    while let Some((place, more)) = rest.split_first() {
+        known = forms_near(*place, earlier, known, places);
+        earlier = *place;
+        made.push(written_place(*place, end, known))?;
+        rest = more;
+    }
+    Ok(made)
 }

@@ -1,5 +1,5 @@
 -- What is told of the checked text and of the plain text, at places of the text.
-use Rattle.std.specs.Prelude.{◌≡◌, ℕ, List, [], ◌∷◌, Option, Some, None}
+use Rattle.std.specs.Prelude.{◌≡◌, ℕ, List, map, Option, Some, None}
 use Rattle.gtd_hours_moments.specs.Places.{written_place}
 use Rattle.gtd_hours_moments.specs.Told.{told_fault}
 use Rattle.gtd_hours_moments.specs.declared.placed.Placed.{Placed}
@@ -46,8 +46,7 @@ placed_holiday end places (Some place) = Some (written_place place end places)
 
 -- other places
 abbrev pub placed_places : ℕ → List Placed → List ℕ → List ℕ
-placed_places end places [] = []
-placed_places end places (place ∷ more) = written_place place end places ∷ placed_places end places more
+placed_places end places own = map (λ (place : ℕ). written_place place end places) own
 
 -- The hours of a text are those of a text of these forms, and all places are where that is written in its so many bytes.
 pub record IsPlacedReading (end : ℕ) (places : List Placed) (own read : KnownHours) : Type 0 where

@@ -1,11 +1,11 @@
 //! What is told of the checked text and of the plain text, at places of the text.
 
 ghost use Rattle.std.specs.Prelude.{◌≡◌, IfOk, None};
-ghost use Rattle.gtd_hours_options.specs.Told.{IsPlacedReading, placed_fault, placed_holiday, placed_places, told};
+ghost use Rattle.gtd_hours_options.specs.Told.{IsPlacedReading, placed_fault, placed_holiday, told};
 
 use gtd_hours_grammar::HoursFault;
 use gtd_hours_known::{KnownFault, KnownHours};
-use gtd_hours_moments::{MomentText, Placed, told_fault, written_place};
+use gtd_hours_moments::{MomentText, Placed, told_fault, written_place, written_places};
 use std::alloc::{AllocError, Global};
 
 /// A fault of a text of these forms, at its place in the text with so many bytes for which they stand.
@@ -56,24 +56,6 @@ fn placed_holiday(end: usize, places: &[Placed], first: Option<usize>) -> Option
     }
 }
 
-// Places in a text of these forms, in the text.
-fn placed_places(
-    alloc: Global,
-    end: usize,
-    places: &[Placed],
-    own: &[usize],
-) -> Result<Vec<usize>, AllocError>
-    ensures { IfOk result (λ made. made.items ≡ placed_places end places.now own.now) }
-{
-    let mut made = Vec::new(alloc);
-    let mut rest = own;
-    while let Some((place, more)) = rest.split_first() {
-        made.push(written_place(*place, end, places))?;
-        rest = more;
-    }
-    Ok(made)
-}
-
 /// The hours of a text with so many bytes by those of a text of these forms.
 pub(crate) fn placed_read(
     alloc: Global,
@@ -85,8 +67,8 @@ pub(crate) fn placed_read(
     ensures form { IfOk result (λ made. made.form ≡ None) }
 {
     let first_holiday = placed_holiday(end, places, read.first_holiday);
-    let remarks = placed_places(alloc, end, places, read.remarks.as_slice())?;
-    let unknowns = placed_places(alloc, end, places, read.unknowns.as_slice())?;
+    let remarks = written_places(alloc, read.remarks.as_slice(), end, places)?;
+    let unknowns = written_places(alloc, read.unknowns.as_slice(), end, places)?;
     Ok(KnownHours {
         hours: read.hours,
         form: None,

@@ -4,3 +4,4 @@ pub mod MarkFacts
 pub mod OneList
 pub mod RuleFacts
 pub mod WarningFacts
+pub mod UnknownFacts

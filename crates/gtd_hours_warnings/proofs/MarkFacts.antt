@@ -1,4 +1,4 @@
--- What remarks, rules that are not known, rules that say days alone and years add to the warnings of a text.
+-- What remarks, rules that say days alone and years add to the warnings of a text.
 use Rattle.std.proofs.Common.{◌≡◌, ◌∙◌, ◌+◌, ◌≤◌, sym, ap, subst, arith, ℕ, suc, List, ◌∷◌, length, take}
 use Rattle.std.specs.Prelude.{OnOk, Option, Some, Result, Ok, Err}
 use Rattle.std.specs.List.{prefix_len}
@@ -8,9 +8,9 @@ use Rattle.gtd_hours_loose.specs.declared.strict.StrictForm.{StrictForm}
 use Rattle.gtd_hours_moments.specs.Reading.{IsMomentText}
 use Rattle.gtd_hours_moments.specs.declared.placed.Placed.{Placed}
 use Rattle.gtd_hours_moments.specs.declared.text.MomentText.{MomentText}
-use Rattle.gtd_hours_warnings.specs.Marks.{AddsNotKnown, AddsRemarks, AddsWholeDays, AddsWholeDaysAt, AddsYears}
+use Rattle.gtd_hours_warnings.specs.Marks.{AddsRemarks, AddsWholeDays, AddsWholeDaysAt, AddsYears}
 use Rattle.gtd_hours_warnings.specs.Marks.{IsKnownYearsWarning}
-use Rattle.gtd_hours_warnings.specs.Marks.{IsNotKnownWarning, IsRemarkWarning, IsWholeDayWarning, comment_of, is_unquoted}
+use Rattle.gtd_hours_warnings.specs.Marks.{IsRemarkWarning, IsWholeDayWarning, comment_of, is_unquoted}
 use Rattle.gtd_hours_warnings.specs.Warnings.{place_in, put_in, strict_text}
 use Rattle.gtd_hours_warnings.specs.WholeDays.{ArePlainDays, AreWholeDays, written_places}
 use Rattle.gtd_hours_warnings.specs.declared.warnings.Warning.{Warning}
@@ -37,13 +37,6 @@ pub remarks_left : (text : List ℕ) (form : Option StrictForm) (all more : List
 remarks_left text form all more place w before after found e is put adds =
     subst (λ (l : List ℕ). AddsRemarks text form l before found) (sym e)
     (w, is, subst (λ (l : List Warning). AddsRemarks text form more l found) put adds)
-
-pub not_known_left : (all more : List ℕ) (place : ℕ) (w : Warning) (before after found : List Warning)
-    → all ≡ place ∷ more → IsNotKnownWarning place w → after ≡ put_in w before → AddsNotKnown more after found
-    → AddsNotKnown all before found
-not_known_left all more place w before after found e is put adds =
-    subst (λ (l : List ℕ). AddsNotKnown l before found) (sym e)
-    (w, is, subst (λ (l : List Warning). AddsNotKnown more l found) put adds)
 
 pub whole_days_left : (text : List ℕ) (form : Option StrictForm) (all more : List ℕ) (place : ℕ) (w : Warning)
     (before after found : List Warning) → all ≡ place ∷ more → IsWholeDayWarning (place_in text form place) w

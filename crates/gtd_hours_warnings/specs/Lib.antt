@@ -4,3 +4,4 @@ pub mod Lines
 pub mod Marks
 pub mod Warnings
 pub mod WholeDays
+pub mod Unknowns

@@ -7,6 +7,7 @@ mod forms;
 pub mod laws;
 mod lines;
 mod marks;
+mod unknowns;
 mod warnings;
 mod whole_days;
 

@@ -2,10 +2,11 @@
 
 ghost use Rattle.std.specs.Prelude.{◌≡◌, ◌≤◌, IfOk, OnOk, drop, length};
 ghost use Rattle.std.specs.List.{prefix_len};
-ghost use Rattle.gtd_hours_warnings.specs.Marks.{AddsNotKnown, AddsRemarks, AddsYears, AddsYearsIf, AreWarningsWith};
-ghost use Rattle.gtd_hours_warnings.specs.Marks.{IsKnownYearsWarning, IsNotKnownWarning, IsRemarkWarning, comment_at};
+ghost use Rattle.gtd_hours_warnings.specs.Marks.{AddsRemarks, AddsYears, AddsYearsIf, AreWarningsWith};
+ghost use Rattle.gtd_hours_warnings.specs.Marks.{IsKnownYearsWarning, IsRemarkWarning, comment_at};
 ghost use Rattle.gtd_hours_warnings.specs.Marks.{is_unquoted, remark_at};
 
+use crate::unknowns::add_not_known;
 use crate::warnings::{Warning, WarningKind, add_hides, form_warnings, put_in};
 use crate::whole_days::add_whole_days;
 use gtd_hours_holidays::KnownYears;
@@ -113,33 +114,6 @@ fn add_remarks(
     Ok(())
 }
 
-// The warning of a fallback rule that is unknown by what stands at a place.
-fn not_known_warning(alloc: Global, place: usize) -> Warning
-    ensures { IsNotKnownWarning place result }
-{
-    Warning {
-        kind: WarningKind::NotKnown,
-        place,
-        form: Vec::new(alloc),
-    }
-}
-
-// Adds the warnings of the fallback rules that are unknown by what stands at these places.
-fn add_not_known(
-    alloc: Global,
-    warnings: &mut Vec<Warning>,
-    places: &[usize],
-) -> Result<(), AllocError>
-    ensures { OnOk result (AddsNotKnown places.now warnings.old.items warnings.new.items) }
-{
-    let mut rest = places;
-    while let Some((place, later)) = rest.split_first() {
-        put_in(warnings, not_known_warning(alloc, *place))?;
-        rest = later;
-    }
-    Ok(())
-}
-
 // The warning that what needs years at this place, and all else that needs them, is known in these years alone.
 fn known_years_warning(
     alloc: Global,
@@ -208,9 +182,9 @@ pub fn warnings_with(
     let mut warnings = form_warnings(alloc, text, &read.form)?;
     let remarks = read.remarks.as_slice();
     add_remarks(alloc, &mut warnings, text, &read.form, remarks)?;
-    add_not_known(alloc, &mut warnings, read.unknowns.as_slice())?;
-    add_whole_days(alloc, &mut warnings, text, &read.form)?;
-    add_hides(alloc, &mut warnings, text, &read.hours, &read.form)?;
-    add_years_if(alloc, &mut warnings, read.first_holiday, years)?;
-    Ok(warnings)
+    let mut marked = add_not_known(alloc, warnings, read.unknowns.as_slice())?;
+    add_whole_days(alloc, &mut marked, text, &read.form)?;
+    add_hides(alloc, &mut marked, text, &read.hours, &read.form)?;
+    add_years_if(alloc, &mut marked, read.first_holiday, years)?;
+    Ok(marked)
 }

@@ -12,8 +12,8 @@ use Rattle.gtd_records.proofs.FoundPlaces.{repeated_closes}
 module _ (rows : List Restriction) (part others : List RowPlace) (one other : Direction) (vehicle : ℕ) where
   pub covered_more : (i : ℕ) (p : RowPlace) (s : Restriction) → i < length part → (slice_index_or part i p).row < length rows
       → s ≡ slice_index_or rows (slice_index_or part i p).row s
-      → (Concerns one vehicle s → IsRepeated rows others other vehicle (length others) s.domain) → AreCovered rows part others one other vehicle i
-      → AreCovered rows part others one other vehicle (i + 1)
+      → (Concerns one vehicle s → IsRepeated rows others other vehicle (length others) s.domain)
+      → AreCovered rows part others one other vehicle i → AreCovered rows part others one other vehicle (i + 1)
   covered_more i p s here there at next before = λ k d r lt is concerns.
       by_le {P = IsRepeated rows others other vehicle (length others) r.domain} i k
       (λ ge.
@@ -26,7 +26,8 @@ module _ (rows : List Restriction) (part others : List RowPlace) (one other : Di
       (λ less. before k d r less is concerns)
 
   pub closed_too : (element another : ℕ) → AreElementPlaces rows element part → AreElementPlaces rows another others
-      → AreCovered rows part others one other vehicle (length part) → (t : ℤ) → IsClosed rows element one vehicle t → IsClosed rows another other vehicle t
+      → AreCovered rows part others one other vehicle (length part) → (t : ℤ)
+      → IsClosed rows element one vehicle t → IsClosed rows another other vehicle t
   closed_too element another placed there covered t is =
       let c = is.4 in
       let p = placed.all is.0 is.1 is.2 is.3 c.names in

@@ -4,6 +4,7 @@ pub mod TakenRows
 pub mod FileFacts
 pub mod FileForms
 pub mod IndexFacts
+pub mod LentDomains
 pub mod NumberFacts
 pub mod OneWayFacts
 pub mod OneAnswer

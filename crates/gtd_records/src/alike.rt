@@ -1,9 +1,9 @@
 //! Elements that rows with the same domains close.
 
-ghost use Rattle.std.specs.Prelude.{◌↔◌, ℤ, IsTrue, length};
+ghost use Rattle.std.specs.Prelude.{◌≡◌, ◌↔◌, ℤ, IsTrue, length, slice_index_or};
 ghost use Rattle.gtd_records.specs.Alike.{AreCovered};
-ghost use Rattle.gtd_records.specs.Closing.{IsClosed};
-ghost use Rattle.gtd_records.specs.Index.{ArePlacesWithin};
+ghost use Rattle.gtd_records.specs.Closing.{IsClosed, Restriction};
+ghost use Rattle.gtd_records.specs.Index.{AreElementPlaces, ArePlacesWithin, IsRepeated};
 
 use crate::direction::{DirectedElement, Direction};
 use crate::index::Records;
@@ -19,6 +19,18 @@ struct Side<'a> {
     direction: Direction,
 }
 
+// Whether the row of a side at a place is this one, and closes that side's direction. Its domain is then not compared.
+fn is_at(found: &Records, side: Side<'_>, at: usize, row: usize, vehicle: u8) -> bool
+    requires side { ArePlacesWithin found.now side.places.now }
+    ensures repeated { IsTrue result → (r : Restriction) → slice_index_or found.now row r ≡ r
+        → IsRepeated found.now side.entry.places.now side.entry.direction vehicle (length side.entry.places.now) r.domain }
+{
+    let Some(place) = side.places.get(at) else {
+        return false;
+    };
+    place.row == row && found.rows()[row].concerns(side.direction, vehicle)
+}
+
 // Whether rows of the other side have the same domains as those of the one.
 fn is_within(found: &Records, one: Side<'_>, other: Side<'_>, vehicle: u8) -> bool
     requires one { ArePlacesWithin found.now one.places.now }
@@ -30,15 +42,33 @@ fn is_within(found: &Records, one: Side<'_>, other: Side<'_>, vehicle: u8) -> bo
     if part.len() > MOST_ROWS || others.len() > MOST_ROWS {
         return false;
     }
-    for place in part {
+    for at in 0..part.len() {
+        let place = part[at];
         let row = &found.rows()[place.row];
         if row.concerns(one.direction, vehicle)
+            && !is_at(found, other, at, place.row, vehicle)
             && !found.is_repeated(others, others.len(), row, other.direction, vehicle)
         {
             return false;
         }
     }
     true
+}
+
+// The places of an element's rows, where those of another one are known, which may be the same.
+fn places_beside<'a>(
+    found: &'a Records,
+    places: &'a [RowPlace],
+    one: u64,
+    other: u64,
+) -> &'a [RowPlace]
+    requires known { AreElementPlaces found.now one places.now }
+    ensures places { AreElementPlaces found.now other result.now }
+{
+    if other == one {
+        return places;
+    }
+    found.places_of_element(other)
 }
 
 /// Whether an element in a direction is seen to be closed for the vehicle type at the same seconds as another, since rows with
@@ -52,26 +82,50 @@ pub fn are_closed_alike(
     ensures alike { IsTrue result → (t : ℤ) → IsClosed found.now one.element one.direction vehicle t
         ↔ IsClosed found.now other.element other.direction vehicle t }
 {
+    let places = found.places_of_element(one.element);
     let first = Side {
-        places: found.places_of_element(one.element),
+        places,
         direction: one.direction,
     };
     let second = Side {
-        places: found.places_of_element(other.element),
+        places: places_beside(found, places, one.element, other.element),
         direction: other.direction,
     };
     is_within(found, first, second, vehicle) && is_within(found, second, first, vehicle)
 }
 
-/// A hash of the texts of the domains of the rows that close the element in its direction, in whatever order. If as many rows
-/// with the same texts close another, it has the same, and few others have. Takes no memory.
-pub fn hash_of_closing(found: &Records, at: DirectedElement, vehicle: u8) -> u32 {
-    let mut hash = 0u32;
-    for place in found.places_of_element(at.element) {
-        let row = &found.rows()[place.row];
-        if row.concerns(at.direction, vehicle) {
-            hash = hash.wrapping_add((row.text_hash ^ 1).wrapping_mul(16_777_619));
+/// Hashes of the texts of the domains of the rows that close an element, in whatever order, for each direction. If as many rows
+/// with the same texts close another element, it has the same, and few others have.
+#[derive(Clone, Copy, Debug)]
+pub struct ClosingHashes {
+    /// That of the positive direction.
+    pub positive: u32,
+    /// That of the negative direction.
+    pub negative: u32,
+}
+
+impl ClosingHashes {
+    /// That of a direction.
+    pub fn of(&self, direction: Direction) -> u32 {
+        match direction {
+            Direction::Positive => self.positive,
+            Direction::Negative => self.negative,
         }
     }
-    hash
+}
+
+/// The hashes of what closes an element for a vehicle type. Takes no memory.
+pub fn hashes_of_closing(found: &Records, element: u64, vehicle: u8) -> ClosingHashes {
+    let (mut positive, mut negative) = (0u32, 0u32);
+    for place in found.places_of_element(element) {
+        let row = &found.rows()[place.row];
+        let hash = (row.text_hash ^ 1).wrapping_mul(16_777_619);
+        if row.concerns(Direction::Positive, vehicle) {
+            positive = positive.wrapping_add(hash);
+        }
+        if row.concerns(Direction::Negative, vehicle) {
+            negative = negative.wrapping_add(hash);
+        }
+    }
+    ClosingHashes { positive, negative }
 }

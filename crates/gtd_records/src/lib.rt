@@ -6,7 +6,7 @@
 //! [`open_seconds`] says the same span by span. [`next_change`] says when that changes.
 #![tactic(auto)]
 
-pub use alike::{are_closed_alike, hash_of_closing};
+pub use alike::{ClosingHashes, are_closed_alike, hashes_of_closing};
 pub use change::next_change;
 pub use column::{read_closed, read_direction, read_number};
 pub use direction::{Closed, DirectedElement, Direction};

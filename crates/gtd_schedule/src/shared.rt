@@ -8,7 +8,8 @@ ghost use Rattle.gtd_schedule.specs.Shared.{AreRight, IsRight};
 use crate::places::Places;
 use crate::run::Schedule;
 use gtd_records::{
-    DirectedElement, Direction, Records, are_closed_alike, hash_of_closing, open_seconds,
+    ClosingHashes, DirectedElement, Direction, Records, are_closed_alike, hashes_of_closing,
+    open_seconds,
 };
 use gtd_spans::SpanList;
 use std::alloc::{AllocError, Global};
@@ -75,20 +76,9 @@ fn directions_of(element: u64) -> (DirectedElement, DirectedElement) {
     (positive, negative)
 }
 
-/// The hashes of what closes an element in its directions.
-#[derive(Clone, Copy)]
-pub(crate) struct Hashes {
-    pub(crate) positive: u32,
-    pub(crate) negative: u32,
-}
-
-/// Those of an element.
-pub(crate) fn hashes_of(job: Job<'_>, element: u64) -> Hashes {
-    let (positive, negative) = directions_of(element);
-    Hashes {
-        positive: hash_of_closing(job.found, positive, job.schedule.vehicle),
-        negative: hash_of_closing(job.found, negative, job.schedule.vehicle),
-    }
+/// The hashes of what closes an element.
+pub(crate) fn hashes_of(job: Job<'_>, element: u64) -> ClosingHashes {
+    hashes_of_closing(job.found, element, job.schedule.vehicle)
 }
 
 // Whether the spans of the one would be found for the other. An element with very many rows is not compared with any, itself
@@ -181,7 +171,7 @@ pub(crate) fn own_spans(
     job: Job<'_>,
     shared: &Shared,
     element: u64,
-    hashes: Hashes,
+    hashes: ClosingHashes,
 ) -> Result<Option<Shared>, AllocError>
     ensures right { IfOk result (λ found. IfSome found
         (λ own. AreRight job.entry.found.now job.entry.schedule.vehicle job.entry.schedule.horizon own.lists.items)) }
@@ -207,17 +197,13 @@ pub(crate) fn spans_for<'a>(
     job: Job<'_>,
     shared: &'a Shared,
     at: DirectedElement,
-    hashes: Hashes,
+    hashes: ClosingHashes,
 ) -> Option<&'a SpanList>
     requires right { AreRight job.found.now job.schedule.vehicle job.schedule.horizon shared.now.lists.items }
     ensures right { IfSome result (λ spans. IsNormalOver
         (IsOpen job.entry.found.now at.element at.direction job.entry.schedule.vehicle) job.entry.schedule.horizon spans.now) }
 {
-    let hash = match at.direction {
-        Direction::Positive => hashes.positive,
-        Direction::Negative => hashes.negative,
-    };
-    let list = shared.places.list_of(hash)?;
+    let list = shared.places.list_of(hashes.of(at.direction))?;
     let known = shared.lists.get(list)?;
     if !are_closed_alike(job.found, known.at, at, job.schedule.vehicle) {
         return None;

@@ -6,9 +6,9 @@ ghost use Rattle.gtd_schedule.specs.Shared.{AreRight};
 ghost use Rattle.gtd_spans.specs.facts.FitsProp.{IsNormal-prop};
 
 use crate::elements::{ScheduleLines, put_direction_spans};
-use crate::shared::{Hashes, Job, Shared, hashes_of, own_spans, spans_for};
+use crate::shared::{Job, Shared, hashes_of, own_spans, spans_for};
 use gtd_devices::Output;
-use gtd_records::{Records, open_seconds};
+use gtd_records::{ClosingHashes, Records, open_seconds};
 use gtd_report::{DirectedElement, DirectionLines, ElementLines, Printer, Stop, put_both};
 
 /// The lines of the elements of a file, of which some spans are known.
@@ -25,7 +25,7 @@ pub(crate) struct ScheduleText<'a> {
 #[derive(Clone, Copy)]
 struct ElementText<'a> {
     text: ScheduleText<'a>,
-    hashes: Hashes,
+    hashes: ClosingHashes,
 }
 
 impl DirectionLines for ElementText<'_> {

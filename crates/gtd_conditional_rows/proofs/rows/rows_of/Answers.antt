@@ -21,8 +21,8 @@ returns c =
     let left-2 = take (length c.as_slice-2.result.now - back.result) (drop back.result c.as_slice-2.result.now) in
     let same = left-same positive ahead.new.steps c.as_mut_slice.result.now c.as_slice.result.now c.args.positive.len ahead.result
     (rw given at long) (omega arith) given c.as_slice.ensures.value ahead.ensures.same in
-    let same-2 = left-same negative back.new.steps c.as_mut_slice-2.result.now c.as_slice-2.result.now c.args.negative.len back.result
-    (rw given-2 at long-2) (omega arith) given-2 c.as_slice-2.ensures.value back.ensures.same in
+    let same-2 = left-same negative back.new.steps c.as_mut_slice-2.result.now c.as_slice-2.result.now c.args.negative.len
+    back.result (rw given-2 at long-2) (omega arith) given-2 c.as_slice-2.ensures.value back.ensures.same in
     let rows = answer-same c.rows_by.result (λ r. r.items) left positive left-2 negative same same-2 c.rows_by.ensures.rows in
     record {
       rows = rows;

@@ -12,8 +12,8 @@ returns c =
     let put = c.put_effective_last-first in
     let long = put.ensures.long in
     let given = c.as_mut_slice.ensures.value in
-    let same = left-same c.args.steps.items put.new.steps c.as_mut_slice.result.now c.as_slice.result.now c.args.steps.len put.result
-    (rw given at long) (omega arith) given c.as_slice.ensures.value put.ensures.same in
+    let same = left-same c.args.steps.items put.new.steps c.as_mut_slice.result.now c.as_slice.result.now c.args.steps.len
+    put.result (rw given at long) (omega arith) given c.as_slice.ensures.value put.ensures.same in
     let left = take (length c.as_slice.result.now - put.result) (drop put.result c.as_slice.result.now) in
     let rows = answer-same c.rows_by_both.result (λ r. r.items) left c.args.steps.items left c.args.steps.items same same
     c.rows_by_both.ensures.rows in

@@ -5,8 +5,8 @@ use Rattle.gtd_hours_days.specs.Listed.{SomeListed}
 use Rattle.gtd_hours_days.proofs.selection.marked.Given as goal
 
 -- the days of the selectors so far
-abbrev pub invariant-loop-selector : goal.invariant-loop-selector
-invariant-loop-selector l = record {
+abbrev pub invariant-loop-place : goal.invariant-loop-place
+invariant-loop-place l = record {
   begun : IsBegun l.days.first l.years;
-  days : (n : ℤ) → IsIn l.days n ↔ SomeListed l.rows l.years (take l.selector-index l.listed) n;
+  days : (n : ℤ) → IsIn l.days n ↔ SomeListed l.rows l.years (take l.place l.listed) n;
 }

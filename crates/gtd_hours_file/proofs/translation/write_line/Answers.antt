@@ -1,20 +1,15 @@
 -- The line of a row has its own element, directions and vehicles, and a domain of its hours.
-use Rattle.std.proofs.Common.{◌≡◌, ◌∙◌, ap, refl, Bor, Option, Some, None}
+use Rattle.std.proofs.Common.{◌∙◌, ap, refl, Option}
 use Rattle.std.specs.Prelude.{option_map}
-use Rattle.std.specs.Option.{option_copied}
 use Rattle.gtd_core.specs.Parts.{domain_tree}
 use Rattle.gtd_core.specs.declared.domain.Domain.{Domain}
+use Rattle.gtd_records.specs.facts.LentDomains.{lent_domain}
 use Rattle.gtd_hours_file.proofs.PutFacts.{is_line}
 use Rattle.gtd_hours_file.proofs.translation.write_line.Goals as goal
 
--- a domain that is lent
-lent : (r : Option (Bor Domain)) → option_map (λ (d : Bor Domain). domain_tree d.now) r ≡ option_map domain_tree (option_copied r)
-lent None = refl
-lent (Some d) = refl
-
 pub returns-clause-line : goal.returns-clause-line
 returns-clause-line c =
-    let same = lent c.as_ref.result ∙ ap (λ (d : Option Domain). option_map domain_tree d) c.as_ref.ensures.value in
+    let same = lent_domain c.as_ref.result ∙ ap (λ (d : Option Domain). option_map domain_tree d) c.as_ref.ensures.value in
     is_line c.write_row.result c.args.row.now _ c.write_row.new.line.items
     (record { element = refl; closed = refl; vehicles = refl; domain = c.in_ok-domain.ensures })
     (rw same at c.write_row.ensures.text)

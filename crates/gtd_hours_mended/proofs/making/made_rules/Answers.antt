@@ -24,4 +24,5 @@ loop-from-preserved c =
 pub returns-clause-made : goal.returns-clause-made
 returns-clause-made c =
     all_joined c.args.text.now c.args.found.now c.loop-from.rest.now c.args.comments.now c.loop-from.comments.now
-    c.args.forms.now c.loop-from.forms.now c.loop-from.made.items (no_rules c.loop-from.rest.now c.in_default.ensures.cases) c.loop-from.invariant
+    c.args.forms.now c.loop-from.forms.now c.loop-from.made.items (no_rules c.loop-from.rest.now c.in_default.ensures.cases)
+    c.loop-from.invariant

@@ -8,10 +8,10 @@ returns-then-is_within c = record {
       let rows = c.args.found.now in
       let one = c.args.one in
       let other = c.args.other in
-      let part = c.places_of_element.result.now in
-      let others = c.places_of_element-2.result.now in
-      let here = c.places_of_element.ensures.places in
-      let there = c.places_of_element-2.ensures.places in (
+      let part = c.places_of_element-places.result.now in
+      let others = c.places_beside.result.now in
+      let here = c.places_of_element-places.ensures.places in
+      let there = c.places_beside.ensures.places in (
         closed_too rows part others one.direction other.direction c.args.vehicle one.element other.element here there
             (c.is_within.ensures.covered c.if-is_within.true) t,
         closed_too rows others part other.direction one.direction c.args.vehicle other.element one.element there here

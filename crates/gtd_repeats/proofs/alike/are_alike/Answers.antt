@@ -7,7 +7,9 @@ pub returns-in-Seconds : goal.returns-in-Seconds
 returns-in-Seconds c =
     let is = c.in-Seconds.is in
     let e : c.args.kind ≡ Seconds = cc in
-    record { alike = rw (e, sym c.domain-in-Seconds.ensures.domain, sym c.domain-in-Seconds-2.ensures.domain) c.hold_same.ensures.same }
+    record {
+      alike = rw (e, sym c.domain-in-Seconds.ensures.domain, sym c.domain-in-Seconds-2.ensures.domain) c.hold_same.ensures.same;
+    }
 
 pub returns-in-Row : goal.returns-in-Row
 returns-in-Row c =

@@ -8,7 +8,8 @@ use Rattle.gtdesk_tool.proofs.mended_hours.print_mended_hours.Goals as goal
 pub returns-in-Ok-clause-put : goal.returns-in-Ok-clause-put
 returns-in-Ok-clause-put g c =
     put_as (IsMendedLine c.args.names c.args.text.now) _ _ _ _ _ _
-    (subst (IsMendedLine c.args.names c.args.text.now) (sym c.as_slice.ensures.value) c.in-Ok.ensures.line) c.print_bytes.ensures.put
+    (subst (IsMendedLine c.args.names c.args.text.now) (sym c.as_slice.ensures.value) c.in-Ok.ensures.line)
+    c.print_bytes.ensures.put
 
 pub returns-in-Err-clause-write_faults : goal.returns-in-Err-clause-write_faults
 returns-in-Err-clause-write_faults g c =

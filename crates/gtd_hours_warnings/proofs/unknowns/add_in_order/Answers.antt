@@ -1,7 +1,7 @@
 -- What one place and those behind it add is what is left to be added.
 use Rattle.std.proofs.Common.{◌≡◌, ◌∷◌}
-use Rattle.gtd_hours_warnings.proofs.MarkFacts.{not_known_left}
-use Rattle.gtd_hours_warnings.proofs.marks.add_not_known.Goals as goal
+use Rattle.gtd_hours_warnings.proofs.UnknownFacts.{not_known_left}
+use Rattle.gtd_hours_warnings.proofs.unknowns.add_in_order.Goals as goal
 
 pub loop-place-preserved : goal.loop-place-preserved
 loop-place-preserved c =

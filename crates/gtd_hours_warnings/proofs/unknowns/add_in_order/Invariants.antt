@@ -2,7 +2,7 @@
 use Rattle.std.proofs.Common.{List, length}
 use Rattle.gtd_hours_warnings.specs.Marks.{AddsNotKnown}
 use Rattle.gtd_hours_warnings.specs.declared.warnings.Warning.{Warning}
-use Rattle.gtd_hours_warnings.proofs.marks.add_not_known.Given as goal
+use Rattle.gtd_hours_warnings.proofs.unknowns.add_in_order.Given as goal
 
 abbrev pub invariant-loop-place : goal.invariant-loop-place
 invariant-loop-place l =

@@ -1,0 +1,15 @@
+-- The places so far, and those that are left, are all; the forms that are known have all that is written from the last place on.
+use Rattle.std.proofs.Common.{◌≡◌, ◌≤◌, ◌++◌, ℕ, length}
+use Rattle.std.specs.Prelude.{map}
+use Rattle.gtd_hours_moments.specs.Places.{written_place}
+use Rattle.gtd_hours_moments.proofs.placed.written_places.Given as goal
+
+abbrev pub invariant-loop-place : goal.invariant-loop-place
+invariant-loop-place l = record {
+  known : (p end : ℕ) → l.earlier ≤ p → written_place p end l.known ≡ written_place p end l.places;
+  made : l.made.items ++ map (λ (place : ℕ). written_place place l.end l.places) l.rest
+      ≡ map (λ (place : ℕ). written_place place l.end l.places) l.begins;
+}
+
+abbrev pub decreases-loop-place : goal.decreases-loop-place
+decreases-loop-place l = length l.rest
