@@ -21,7 +21,8 @@ next_of_one-loop-inner-preserved g t c =
 pub next_of_two-loop-left-preserved-in-Left : goal.next_of_two-loop-left-preserved-in-Left
 next_of_two-loop-left-preserved-in-Left g t c =
     let old = c.loop-left.invariant in
-    let kept = c.in-Left.ensures.steps.1 (node_list g.L.Leaf c.loop-left.left) (node_list g.L.Leaf c.loop-left.right) old.fits in
+    let kept = c.in-Left.ensures.steps.1 (node_list g.L.Leaf c.loop-left.left) (node_list g.L.Leaf c.loop-left.right)
+    old.fits in
     let told = c.tell-in-Left.ensures.left c.in-Left.ensures.steps.0 (node_list g.L.Leaf c.loop-left.left)
     (node_list g.L.Leaf c.next.new.self) (node_list g.L.Leaf c.loop-left.right) (rw c.in-Some.is at c.next.ensures.takes) kept.0 in
     record {

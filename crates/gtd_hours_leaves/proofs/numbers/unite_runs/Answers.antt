@@ -12,7 +12,8 @@ loop-begin-preserved c =
     record {
       order = within;
       days = λ s. one_more-run _ _ _ _ (λ k. HasNumber Year k (moved_day (minutes_of c.args.clock) s)) begin (begin + 100 - 1)
-          (begin + 100) c.args.last (omega arith) within (omega arith) (c.year_run.ensures.days s) (c.in_ok-expr.ensures.seconds s)
+          (begin + 100) c.args.last (omega arith) within (omega arith) (c.year_run.ensures.days s)
+          (c.in_ok-expr.ensures.seconds s)
           (c.loop-begin.invariant.days s);
       leaves = runs-left begin c.args.last _ _ _ within (omega (arith, c.in_ok-expr.ensures.leaves, c.year_run.ensures.leaves))
           c.loop-begin.invariant.leaves;
