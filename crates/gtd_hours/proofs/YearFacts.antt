@@ -1,61 +1,95 @@
--- Ends of ranges repeat after four hundred years, so their order is seen in these.
+-- The order of the ends of ranges is seen in twenty-eight years: that of a year is that of its twin, and all repeat after four
+-- hundred years.
 use Rattle.std.proofs.Common.{◌≡◌, ◌↔◌, sym, arith, ℕ, zero, suc, ◌+◌, ◌-◌, ◌*◌, ◌/◌, ◌%◌, ◌<◌, ◌≤◌, Bool, true, false, refl}
 use Rattle.std.proofs.Common.{ℤ, pos, ◌+ℤ◌, ◌-ℤ◌, ◌≤ℤ◌, ◌<ℤ◌, unsigned_abs}
 use Rattle.std.proofs.lemmas.Int.{by_lt_z}
 use Rattle.gtd_calendar.specs.facts.Signed.{signed_arith, one_part}
-use Rattle.gtd_calendar.specs.Calendar.{day_number, month_length, weekday_of}
-use Rattle.gtd_calendar.specs.facts.CycleLemmas.{day_number-cycle, month_length-cycle, weekday_of-cycle}
+use Rattle.gtd_calendar.specs.Calendar.{day_number, days_of_months, first_day, month_length, weekday_of}
+use Rattle.gtd_calendar.specs.facts.CycleLemmas.{is_leap_year-cycle}
+use Rattle.gtd_calendar.specs.facts.YearLemmas.{first_day-cycle}
 use Rattle.gtd_hours.specs.Moving.{day_from, last_year}
 use Rattle.gtd_hours.specs.ComputedPlaces.{IsInOrder, end_day, place_day}
 use Rattle.gtd_hours.specs.declared.places.End.{End}
 use Rattle.gtd_hours.specs.declared.places.End.TheVariants.{Date, Place}
+use Rattle.gtd_hours.proofs.YearTwins.{AreTwinPairs, AreTwins, twin}
 
-place-cycle : (back : Bool) (w k : ℕ) (y : ℤ) (m : ℕ)
-    → place_day back w k (y +ℤ pos 400) m ≡ place_day back w k y m +ℤ pos 146_097
-unfolding place_day
-place-cycle false w k y m =
-    rw (day_number-cycle y m 1, weekday_of-cycle (day_number y m 1))
-    (moved (day_number y m 1) ((w + 7 - weekday_of (day_number y m 1)) % 7 + 7 * (k - 1)))
+month-twin : (y z : ℤ) (j m : ℕ) → AreTwins y z j → month_length y m ≡ month_length z m
+month-twin y z j m t = rw t.0
+
+months-twin : (y z : ℤ) (j n : ℕ) → AreTwins y z j → days_of_months y n ≡ days_of_months z n
+unfolding days_of_months
+months-twin y z j zero t = refl
+months-twin y z j (suc n) t = rw (months-twin y z j n t, month-twin y z j (suc n) t)
+
+day_number-twin : (y z : ℤ) (j m d : ℕ) → AreTwins y z j → day_number y m d ≡ day_number z m d +ℤ pos (7 * j)
+unfolding day_number
+day_number-twin y z j m d t =
+    rw (t.1, months-twin y z j (m - 1) t) (moved (first_day z) (days_of_months z (m - 1) + (d - 1)))
   where
-    moved : (a : ℤ) (j : ℕ) → (a +ℤ pos 146_097) +ℤ pos j ≡ (a +ℤ pos j) +ℤ pos 146_097
-    moved a j = omega (arith, signed_arith)
-place-cycle true w k y m =
-    let last = day_number y m (month_length y m) in
-    rw (month_length-cycle y m, day_number-cycle y m (month_length y m), weekday_of-cycle last)
+    moved : (a : ℤ) (k : ℕ) → (a +ℤ pos (7 * j)) +ℤ pos k ≡ (a +ℤ pos k) +ℤ pos (7 * j)
+    moved a k = omega (arith, signed_arith)
+
+weekday_of-weeks : (n : ℤ) (j : ℕ) → weekday_of (n +ℤ pos (7 * j)) ≡ weekday_of n
+unfolding weekday_of
+weekday_of-weeks n j = omega (arith, signed_arith)
+
+place-twin : (back : Bool) (w k : ℕ) (y z : ℤ) (j m : ℕ) → AreTwins y z j
+    → place_day back w k y m ≡ place_day back w k z m +ℤ pos (7 * j)
+unfolding place_day
+place-twin false w k y z j m t =
+    rw (day_number-twin y z j m 1 t, weekday_of-weeks (day_number z m 1) j)
+    (moved (day_number z m 1) ((w + 7 - weekday_of (day_number z m 1)) % 7 + 7 * (k - 1)))
+  where
+    moved : (a : ℤ) (i : ℕ) → (a +ℤ pos (7 * j)) +ℤ pos i ≡ (a +ℤ pos i) +ℤ pos (7 * j)
+    moved a i = omega (arith, signed_arith)
+place-twin true w k y z j m t =
+    let last = day_number z m (month_length z m) in
+    rw (month-twin y z j m t, day_number-twin y z j m (month_length z m) t, weekday_of-weeks last j)
     (moved last ((weekday_of last + 7 - w) % 7 + 7 * (k - 1)))
   where
-    moved : (a : ℤ) (j : ℕ) → (a +ℤ pos 146_097) -ℤ pos j ≡ (a -ℤ pos j) +ℤ pos 146_097
-    moved a j = omega (arith, signed_arith)
+    moved : (a : ℤ) (i : ℕ) → (a +ℤ pos (7 * j)) -ℤ pos i ≡ (a -ℤ pos i) +ℤ pos (7 * j)
+    moved a i = omega (arith, signed_arith)
 
-from-cycle : (before : Bool) (k : ℕ) (n : ℤ) → day_from before k (n +ℤ pos 146_097) ≡ day_from before k n +ℤ pos 146_097
-from-cycle true k n = omega (arith, signed_arith)
-from-cycle false k n = omega (arith, signed_arith)
+from-weeks : (before : Bool) (k : ℕ) (n : ℤ) (j : ℕ)
+    → day_from before k (n +ℤ pos (7 * j)) ≡ day_from before k n +ℤ pos (7 * j)
+from-weeks true k n j = omega (arith, signed_arith)
+from-weeks false k n j = omega (arith, signed_arith)
 
-end-cycle : (e : End) (y : ℤ) → end_day e (y +ℤ pos 400) ≡ end_day e y +ℤ pos 146_097
-end-cycle (Date date) y = day_number-cycle y date.month date.day
-end-cycle (Place x) y =
+end-twin : (e : End) (y z : ℤ) (j : ℕ) → AreTwins y z j → end_day e y ≡ end_day e z +ℤ pos (7 * j)
+end-twin (Date date) y z j t = day_number-twin y z j date.month date.day t
+end-twin (Place x) y z j t =
     let p = x.place in
-    rw (place-cycle p.is_back p.place.weekday p.place.number y x.month)
-    (from-cycle p.is_before p.days (place_day p.is_back p.place.weekday p.place.number y x.month))
+    rw (place-twin p.is_back p.place.weekday p.place.number y z j x.month t)
+    (from-weeks p.is_before p.days (place_day p.is_back p.place.weekday p.place.number z x.month) j)
 
-year-cycle : (over : Bool) (y : ℤ) → last_year over (y +ℤ pos 400) ≡ last_year over y +ℤ pos 400
-year-cycle true y = omega (arith, signed_arith)
-year-cycle false y = refl
+last_year-twin : (over : Bool) (y z : ℤ) (j : ℕ) → AreTwinPairs y z j → AreTwins (last_year over y) (last_year over z) j
+last_year-twin true y z j t = t.1
+last_year-twin false y z j t = t.0
 
--- the order of a year is that of the year four hundred years later
-order-cycle : (over : Bool) (first last : End) (y : ℤ)
-    → IsInOrder over first last (y +ℤ pos 400) ↔ IsInOrder over first last y
-order-cycle over first last y =
-    let next : (y +ℤ pos 400) +ℤ pos 1 ≡ (y +ℤ pos 1) +ℤ pos 400 = omega (arith, signed_arith) in
-    rw (year-cycle over y, next, end-cycle first y, end-cycle last (last_year over y), end-cycle first (y +ℤ pos 1))
-    (moved (end_day first y) (end_day last (last_year over y)) (end_day first (y +ℤ pos 1)))
+-- the order of a year is that of its twin
+order-twin : (over : Bool) (first last : End) (y z : ℤ) (j : ℕ) → AreTwinPairs y z j
+    → IsInOrder over first last y ↔ IsInOrder over first last z
+order-twin over first last y z j t =
+    rw (end-twin first y z j t.0, end-twin last (last_year over y) (last_year over z) j (last_year-twin over y z j t),
+    end-twin first (y +ℤ pos 1) (z +ℤ pos 1) j t.1)
+    (moved (end_day first z) (end_day last (last_year over z)) (end_day first (z +ℤ pos 1)))
   where
-    moved : (a b c : ℤ) → (((a +ℤ pos 146_097) ≤ℤ (b +ℤ pos 146_097)) × ((b +ℤ pos 146_097) <ℤ (c +ℤ pos 146_097)))
+    moved : (a b c : ℤ) → (((a +ℤ pos (7 * j)) ≤ℤ (b +ℤ pos (7 * j))) × ((b +ℤ pos (7 * j)) <ℤ (c +ℤ pos (7 * j))))
         ↔ ((a ≤ℤ b) × (b <ℤ c))
     moved a b c = (
       (λ h. (omega (arith, signed_arith, h.0), omega (arith, signed_arith, h.1))),
       (λ h. (omega (arith, signed_arith, h.0), omega (arith, signed_arith, h.1))),
     )
+
+-- four hundred years are 20,871 weeks
+cycle-twins : (y : ℤ) → AreTwinPairs (y +ℤ pos 400) y 20_871
+cycle-twins y =
+    let next : (y +ℤ pos 400) +ℤ pos 1 ≡ (y +ℤ pos 1) +ℤ pos 400 = omega (arith, signed_arith) in
+    ((is_leap_year-cycle y, first_day-cycle y), rw next (is_leap_year-cycle (y +ℤ pos 1), first_day-cycle (y +ℤ pos 1)))
+
+order-cycle : (over : Bool) (first last : End) (y : ℤ)
+    → IsInOrder over first last (y +ℤ pos 400) ↔ IsInOrder over first last y
+order-cycle over first last y = order-twin over first last (y +ℤ pos 400) y 20_871 (cycle-twins y)
 
 order-later : (over : Bool) (first last : End) (y : ℤ) (j : ℕ) → IsInOrder over first last y
     → IsInOrder over first last (y +ℤ pos (400 * j))
@@ -73,10 +107,19 @@ order-earlier over first last y (suc j) h =
     let next : y +ℤ pos (400 * suc j) ≡ (y +ℤ pos (400 * j)) +ℤ pos 400 = omega (arith, signed_arith) in
     order-earlier over first last y j ((order-cycle over first last (y +ℤ pos (400 * j))).0 (rw next at h))
 
--- what holds in four hundred years holds in all
-pub all-years : (over : Bool) (first last : End) → ((k : ℕ) → 2000 ≤ k → k < 2400 → IsInOrder over first last (pos k)) → (y : ℤ)
+-- what holds in twenty-eight years holds in four hundred
+by-twin : (over : Bool) (first last : End) → ((k : ℕ) → 2000 ≤ k → k < 2028 → IsInOrder over first last (pos k)) → (k : ℕ)
+    → 2000 ≤ k → k < 2400 → IsInOrder over first last (pos k)
+by-twin over first last each k low high =
+    let t = twin (k - 2000) (omega (arith, low, high)) in
+    let same : 2000 + (k - 2000) ≡ k = omega (arith, low) in
+    rw same at ((order-twin over first last (pos (2000 + (k - 2000))) (pos t.0) t.1 t.3).1 (each t.0 t.2.0 t.2.1))
+
+-- and so it holds in all
+pub all-years : (over : Bool) (first last : End) → ((k : ℕ) → 2000 ≤ k → k < 2028 → IsInOrder over first last (pos k)) → (y : ℤ)
     → IsInOrder over first last y
-all-years over first last each y =
+all-years over first last some y =
+    let each = by-twin over first last some in
     by_lt_z y (pos 2000)
     (λ lt.
     let d = before y lt in

@@ -9,10 +9,10 @@ use crate::ends::{end_day, is_place, is_yearly};
 use crate::moving::Moving;
 use crate::places::End;
 
-// The calendar repeats after four hundred years.
+// Each year has the months and weekdays of one of the 28 years from this one on, and so has the year behind it.
 const FIRST_YEAR: u16 = 2000;
 
-const YEARS: u16 = 400;
+const YEARS: u16 = 28;
 
 // Whether the ends are days of each year, and one of them moves.
 fn are_ends(first: End, last: End) -> bool
@@ -87,8 +87,8 @@ impl Moving {
 
     /// The range from a day of each year to another, which is of the next year if it comes before the first. `None` exactly if
     /// neither is a place of a weekday, one is 29 February, or their order is not the same in each year: the first day must
-    /// not be after the last one, and this must be before the next first one. The calendar repeats after 400 years, so these
-    /// are looked at, in less than 50 microseconds. Takes no memory.
+    /// not be after the last one, and this must be before the next first one. Each year has the months and weekdays of one of 28
+    /// years, so these are looked at. Takes no memory.
     pub fn new(first: End, last: End) -> Option<Moving>
         ensures kept { IfSome result (λ x. (x.first ≡ first) × (x.last ≡ last)) }
         ensures accepted { IsSome result ↔ ((over : Bool) × IsMoving over first last) }
