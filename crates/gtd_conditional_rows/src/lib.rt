@@ -1,8 +1,8 @@
 //! Rows of a record file, from steps that close and open a road element.
 //!
 //! A [`Step`] closes or opens an element for some vehicle types, always or within hours; the last step that applies to a type
-//! at a second says whether it is closed then. [`rows_of`] answers the rows that say the same, and [`rows_of_both`] those of steps
-//! that do the same in both directions.
+//! at a second says whether it is closed then. [`rows_of`] answers the rows that say the same, and [`rows_of_both`] those of
+//! steps that do the same in both directions.
 #![tactic(auto)]
 
 pub use fault::RowsFault;

@@ -51,7 +51,7 @@ abbrev pub CoversYears : List HolidayRow → KnownYears → Option HolidayKind �
 CoversYears rows years None = ⊤
 CoversYears rows years (Some kind) = (n : ℤ) → IsOfYears years.first years.last n → IsCovered rows kind n
 
--- The selectors are of the same kind, and hold on the same days.
+-- The selectors are of the same kind, and the other holds wherever the one does.
 pub record IsAlike (one other : Listed) : Type 0 where
   pub kind : kind_of one ≡ kind_of other
   pub days : (rows : List HolidayRow) (years : KnownYears) (n : ℤ) → IsListed rows years one n → IsListed rows years other n

@@ -83,8 +83,8 @@ along e b p q same all = (
 )
 
 -- What holds so far or has a number that is left is all: so it is with one more run, which has the next of these numbers.
-pub one_more-run : (e so run all : Type 0) (P : ℕ → Type 0) (begin end next last : ℕ) → begin ≤ next → next ≤ last → next ≡ end + 1
-    → (run ↔ ((k : ℕ) × (begin ≤ k) × (k ≤ end) × P k)) → (e ↔ (so ⊎ run))
+pub one_more-run : (e so run all : Type 0) (P : ℕ → Type 0) (begin end next last : ℕ) → begin ≤ next → next ≤ last
+    → next ≡ end + 1 → (run ↔ ((k : ℕ) × (begin ≤ k) × (k ≤ end) × P k)) → (e ↔ (so ⊎ run))
     → ((so ⊎ ((k : ℕ) × (begin ≤ k) × (k ≤ last) × P k)) ↔ all)
     → (e ⊎ ((k : ℕ) × (next ≤ k) × (k ≤ last) × P k)) ↔ all
 one_more-run e so run all P begin end next last later within is own both before = (

@@ -89,8 +89,8 @@ fn forms_near<'a>(
     forms_from(place, known)
 }
 
-/// Where in the text that is written for which forms stand, each as by [`written_place`]. If the places at which they begin ascend,
-/// the forms are gone through once. `AllocError` is answered only if memory was refused.
+/// Where in the text that is written for which forms stand, each as by [`written_place`]. If the places at which they begin
+/// ascend, the forms are gone through once. `AllocError` is answered only if memory was refused.
 pub fn written_places(
     alloc: Global,
     begins: &[usize],

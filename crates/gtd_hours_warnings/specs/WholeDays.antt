@@ -1,5 +1,5 @@
 -- The rules that say days alone, and behind which a comma begins another rule: where they begin.
-use Rattle.std.specs.Prelude.{◌≡◌, ℕ, List, [], ◌∷◌, length}
+use Rattle.std.specs.Prelude.{◌≡◌, ℕ, List, [], length, map}
 use Rattle.gtd_hours_holiday_rules.specs.Reading.{IsHolidayText}
 use Rattle.gtd_hours_holiday_rules.specs.declared.text.HolidayText.{HolidayText}
 use Rattle.gtd_hours_items.specs.Comments.{IsBadPlace}
@@ -16,8 +16,7 @@ pub data ArePlainDays (text : List ℕ) (places : List ℕ) : Type 0 where
 
 -- Where that is written, in a text with so many bytes, for which the forms at these places stand.
 abbrev pub written_places : ℕ → List Placed → List ℕ → List ℕ
-written_places end forms [] = []
-written_places end forms (place ∷ places) = written_place place end forms ∷ written_places end forms places
+written_places end forms places = map (λ place. written_place place end forms) places
 
 -- Where such rules begin in any text. In its checked text a range of clock times stands for each form of times: they are rules of
 -- that, each where it is written. A text that is not tokens has none.

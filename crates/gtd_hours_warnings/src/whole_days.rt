@@ -3,12 +3,12 @@
 ghost use Rattle.std.specs.Prelude.{◌≡◌, IfOk, OnOk};
 ghost use Rattle.gtd_hours_warnings.specs.Marks.{AddsWholeDays, AddsWholeDaysAt, IsWholeDayWarning};
 ghost use Rattle.gtd_hours_warnings.specs.Warnings.{place_in};
-ghost use Rattle.gtd_hours_warnings.specs.WholeDays.{ArePlainDays, AreWholeDays, written_places};
+ghost use Rattle.gtd_hours_warnings.specs.WholeDays.{ArePlainDays, AreWholeDays};
 
 use crate::warnings::{Warning, WarningKind, place_in, put_in, strict_text};
 use gtd_hours_holiday_rules::{NoHolidayText, holiday_text};
 use gtd_hours_loose::StrictForm;
-use gtd_hours_moments::{NoMomentText, Placed, moment_text, written_place};
+use gtd_hours_moments::{NoMomentText, moment_text, written_places};
 use std::alloc::{AllocError, Global};
 
 // Where such rules begin in a text whose times are all ranges of clock times.
@@ -22,24 +22,6 @@ fn plain_days(alloc: Global, text: &[u8]) -> Result<Vec<usize>, AllocError>
     }
 }
 
-// Where that is written, in a text with so many bytes, for which the forms at these places stand.
-fn written_places(
-    alloc: Global,
-    end: usize,
-    forms: &[Placed],
-    places: &[usize],
-) -> Result<Vec<usize>, AllocError>
-    ensures { IfOk result (λ written. written.items ≡ written_places end forms.now places.now) }
-{
-    let mut written = Vec::new(alloc);
-    let mut rest = places;
-    while let Some((place, later)) = rest.split_first() {
-        written.push(written_place(*place, end, forms))?;
-        rest = later;
-    }
-    Ok(written)
-}
-
 // Where such rules begin in a text that may have other forms of times.
 fn whole_days(alloc: Global, text: &[u8]) -> Result<Vec<usize>, AllocError>
     ensures { IfOk result (λ places. AreWholeDays text.now places.items) }
@@ -48,7 +30,7 @@ fn whole_days(alloc: Global, text: &[u8]) -> Result<Vec<usize>, AllocError>
         Ok(moments) => {
             let plain = plain_days(alloc, moments.checked.text.as_slice())?;
             let forms = moments.checked.places.as_slice();
-            written_places(alloc, text.len(), forms, plain.as_slice())
+            written_places(alloc, plain.as_slice(), text.len(), forms)
         }
         Err(NoMomentText::BadToken { place: _ }) => Ok(Vec::new(alloc)),
         Err(NoMomentText::NoMemory) => Err(AllocError),

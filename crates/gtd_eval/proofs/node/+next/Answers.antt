@@ -24,7 +24,8 @@ next_of_two-loop-left-preserved-in-Left g t c =
     let kept = c.in-Left.ensures.steps.1 (node_list g.L.Leaf c.loop-left.left) (node_list g.L.Leaf c.loop-left.right)
     old.fits in
     let told = c.tell-in-Left.ensures.left c.in-Left.ensures.steps.0 (node_list g.L.Leaf c.loop-left.left)
-    (node_list g.L.Leaf c.next.new.self) (node_list g.L.Leaf c.loop-left.right) (rw c.in-Some.is at c.next.ensures.takes) kept.0 in
+    (node_list g.L.Leaf c.next.new.self) (node_list g.L.Leaf c.loop-left.right) (rw c.in-Some.is at c.next.ensures.takes)
+    kept.0 in
     record {
       left_sound = c.next.ensures.sound;
       right_sound = old.right_sound;

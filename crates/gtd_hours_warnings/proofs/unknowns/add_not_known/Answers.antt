@@ -18,8 +18,10 @@ loop-warning-preserved c = record {
 pub returns : goal.returns
 returns c =
     let gives = c.into_iter-warning-iterator.ensures.into_iter_gives in
-    let all-are = YieldsList-from_vec {s = c.into_iter-warning-iterator.result} c.args.warnings.items (search rules) (search rules) in
-    let end = YieldsList-end all-are c.loop-warning.yielded c.loop-warning.warning-iterator c.loop-warning.yielded_by c.next.result c.next.new.self c.in-None.is c.next.ensures.steps in
+    let all-are = YieldsList-from_vec {s = c.into_iter-warning-iterator.result} c.args.warnings.items (search rules)
+    (search rules) in
+    let end = YieldsList-end all-are c.loop-warning.yielded c.loop-warning.warning-iterator c.loop-warning.yielded_by
+    c.next.result c.next.new.self c.in-None.is c.next.ensures.steps in
     let whole : c.loop-warning.yielded ≡ c.args.warnings.items = sym (map-id c.loop-warning.yielded) ∙ end.0 in
     let found = c.add_in_order.new.warnings.items in
     let all = c.push_ready.new.all.items in

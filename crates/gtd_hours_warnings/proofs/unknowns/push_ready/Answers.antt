@@ -21,8 +21,8 @@ loop-place-preserved c =
     record {
       by = rw pushed (by_more place all w (by_later latest place all ready.0 c.loop-place.invariant.by) le);
       adds = λ more found begins adds. c.loop-place.invariant.adds more found begins
-          (ready_left rest later place c.args.next latest w all more found split is ready.0 ready.1 begins c.loop-place.invariant.by
-          (subst (λ (l : List Warning). AddsNotKnown later (l ++ more) found) pushed adds));
+          (ready_left rest later place c.args.next latest w all more found split is ready.0 ready.1 begins
+          c.loop-place.invariant.by (subst (λ (l : List Warning). AddsNotKnown later (l ++ more) found) pushed adds));
     }
 
 pub returns-clause-by : goal.returns-clause-by
