@@ -12,6 +12,19 @@ use Rattle.gtd_hours_holiday_rules.specs.Parts.{parts_of, told_of}
 use Rattle.gtd_hours_holiday_rules.specs.Rules.{rules_of, said_by}
 use Rattle.gtd_hours_holiday_rules.specs.WholeDays.{whole_days_of}
 
+-- The items are those of the text, of its tokens with comments that end.
+pub record AreItemsIn (text : List ℕ) (items : List Item) : Type 0 where
+  pub tokens : List Token
+  pub are : AreTokens text tokens
+  pub whole : are_whole text tokens ≡ true
+  pub made : AreItems text tokens items
+
+-- The parts are those of such items.
+pub record ArePartsIn (text : List ℕ) (parts : List Part) : Type 0 where
+  pub items : List Item
+  pub are : AreItemsIn text items
+  pub is : parts ≡ parts_of items
+
 -- The text with these parts is so: its checked text, its rules, how faults of the checked text are told, and which rules hold all
 -- day.
 pub record HasParts (text : List ℕ) (parts : List Part) (read : HolidayText) : Type 0 where

@@ -1,7 +1,7 @@
 //! A text with holidays, comments, unknown and fallback rules as plain hours and what is said beside them.
 
 ghost use Rattle.std.specs.Prelude.{◌≡◌, IfErr, IfOk, length};
-ghost use Rattle.gtd_hours_holiday_rules.specs.Reading.{HasItems, HasParts, IsHolidayText};
+ghost use Rattle.gtd_hours_holiday_rules.specs.Reading.{AreItemsIn, ArePartsIn, HasParts, IsHolidayText};
 ghost use Rattle.gtd_hours_items.specs.Comments.{IsNoHolidayText};
 
 use crate::checked::checked_text;
@@ -9,8 +9,7 @@ use crate::parts::{Part, parts_of, told_of};
 use crate::rules::{HolidayRule, rules_of};
 use crate::told::Told;
 use crate::whole_days::whole_days_of;
-use gtd_hours_items::{NoHolidayText, items_of, tokens_of};
-use gtd_hours_tokens::Token;
+use gtd_hours_items::{Item, NoHolidayText, items_of, tokens_of};
 use std::alloc::{AllocError, Global};
 
 /// A text as plain hours and what is said beside them.
@@ -42,13 +41,24 @@ fn with_parts(alloc: Global, text: &[u8], parts: &[Part]) -> Result<HolidayText,
     })
 }
 
-// The text of these tokens.
-fn with_tokens(alloc: Global, text: &[u8], tokens: &[Token]) -> Result<HolidayText, AllocError>
-    ensures { IfOk result (HasItems text.now tokens.now) }
+// The items of a text, beside which its tokens are not kept.
+fn items_in(alloc: Global, text: &[u8]) -> Result<Vec<Item>, NoHolidayText>
+    ensures items { IfOk result (λ items. AreItemsIn text.now items.items) }
+    ensures fault { IfErr result (IsNoHolidayText text.now) }
 {
-    let items = items_of(alloc, text, tokens)?;
+    let tokens = tokens_of(alloc, text)?;
+    let items = items_of(alloc, text, tokens.as_slice())?;
+    Ok(items)
+}
+
+// The parts of a text, beside which its items are not kept.
+fn parts_in(alloc: Global, text: &[u8]) -> Result<Vec<Part>, NoHolidayText>
+    ensures parts { IfOk result (λ parts. ArePartsIn text.now parts.items) }
+    ensures fault { IfErr result (IsNoHolidayText text.now) }
+{
+    let items = items_in(alloc, text)?;
     let parts = parts_of(alloc, items.as_slice())?;
-    with_parts(alloc, text, parts.as_slice())
+    Ok(parts)
 }
 
 /// A text as plain hours and what is said beside them. Errors: the first byte with which no token begins, or the first comment
@@ -58,7 +68,7 @@ pub fn holiday_text(alloc: Global, text: &[u8]) -> Result<HolidayText, NoHoliday
     ensures length { IfOk result (λ read. length read.checked.items ≡ length text.now) }
     ensures fault { IfErr result (IsNoHolidayText text.now) }
 {
-    let tokens = tokens_of(alloc, text)?;
-    let read = with_tokens(alloc, text, tokens.as_slice())?;
+    let parts = parts_in(alloc, text)?;
+    let read = with_parts(alloc, text, parts.as_slice())?;
     Ok(read)
 }

@@ -46,6 +46,20 @@ holds_more old new ms m h t p = record {
       ∙ ap (λ (k : ℕ). parts_from 0 ms ++ part_at k m ∷ []) n ∙ sym (parts_more 0 ms m);
 }
 
+-- and so it is where the strict text had its form, and then a space
+pub part_ended : (old new : StrictForm) (ms : List Mended) (m : Mended) (text : List ℕ) (start : ℕ) → Holds old ms
+    → text ≡ old.text.items ++ m.form → start ≡ length old.text.items → new.text.items ≡ text ++ 32 ∷ []
+    → new.parts.items ≡ old.parts.items ++ record { from = m.from; to = m.to; start = start; end = length text } ∷ []
+    → Holds new (ms ++ m ∷ [])
+part_ended old new ms m text start h form begins space part =
+    let make : ℕ → ℕ → Part = λ a b. record { from = m.from; to = m.to; start = a; end = b } in
+    let ends : length text ≡ length old.text.items + length m.form =
+    ap length form ∙ length-append old.text.items m.form in
+    holds_more old new ms m h
+    (space ∙ ap (λ (l : List ℕ). l ++ 32 ∷ []) form ∙ append_assoc old.text.items m.form (32 ∷ []))
+    (part ∙ ap (λ (a : ℕ). old.parts.items ++ make a (length text) ∷ []) begins
+    ∙ ap (λ (b : ℕ). old.parts.items ++ make (length old.text.items) b ∷ []) ends)
+
 -- ---- spaces
 
 if_true : {A : Type 0} (b : Bool) (x y : A) → b ≡ true → (if b then x else y) ≡ x

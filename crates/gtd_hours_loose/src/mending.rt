@@ -1,13 +1,15 @@
 //! The strict form of a text, from its tokens.
 
 ghost use Rattle.std.specs.Prelude.{◌+◌, ◌<◌, ◌++◌, ◌^◌, List, OnOk, IfOk, IfErr, length};
-ghost use Rattle.gtd_hours_loose.specs.Mending.{Holds, Mended, by_fate, mended, spaces_in};
+ghost use Rattle.gtd_hours_loose.specs.Mending.{Holds, Mended, by_fate, form_of, mended, spaces_in};
 ghost use Rattle.gtd_hours_loose.specs.StrictForms.{IsLooseStop, IsPushed, IsStrictForm};
 
 use crate::behind::{Behind, Fate, after, fate_of, kind_here};
 use crate::pairs::pair_fault;
-use crate::strict::{StrictForm, form_of, nothing, push_part, stretch};
-use gtd_hours_loose_tokens::{DayNames, LooseStop, LooseToken, TokenFault, other_space, tokens_of};
+use crate::strict::{StrictForm, nothing, push_part, push_strict, stretch};
+use gtd_hours_loose_tokens::{
+    DayNames, LooseKind, LooseStop, LooseToken, TokenFault, other_space, tokens_of,
+};
 use std::alloc::{AllocError, Global};
 
 /// The strict form of a loosely written text, or the first place where a token is wrong.
@@ -33,7 +35,7 @@ fn mended(alloc: Global, text: &[u8], tokens: &[LooseToken]) -> Result<StrictFor
     let mut rest = tokens;
     while let Some((token, later)) = rest.split_first() {
         push_spaces(&mut form, place, stretch(text, place, token.from))?;
-        behind = push_token(&mut form, alloc, text, behind, rest)?;
+        behind = push_token(&mut form, text, behind, rest)?;
         place = token.to;
         rest = later;
     }
@@ -63,7 +65,6 @@ fn push_spaces(form: &mut StrictForm, place: usize, bytes: &[u8]) -> Result<(), 
 // Appends the strict form of the first of these tokens, and answers what stands behind it.
 fn push_token(
     form: &mut StrictForm,
-    alloc: Global,
     text: &[u8],
     behind: Behind,
     tokens: &[LooseToken],
@@ -75,29 +76,35 @@ fn push_token(
         Some((token, later)) => {
             let kind = kind_here(behind, token.kind, tokens);
             let fate = fate_of(behind, kind, later);
-            let bytes = form_of(alloc, kind, stretch(text, token.from, token.to))?;
-            push_by(form, fate, *token, bytes.as_slice())?;
+            push_by(
+                form,
+                fate,
+                *token,
+                kind,
+                stretch(text, token.from, token.to),
+            )?;
             Ok(after(fate, behind, token.kind, tokens))
         }
     }
 }
 
-// Appends a token with this fate and this strict form.
+// Appends a token with this fate, this kind and this text.
 fn push_by(
     form: &mut StrictForm,
     fate: Fate,
     token: LooseToken,
-    bytes: &[u8],
+    kind: LooseKind,
+    written: &[u8],
 ) -> Result<(), AllocError>
     ensures { OnOk result ((ms : List Mended) → Holds form.old ms
-        → Holds form.new (ms ++ by_fate fate token.from token.to bytes.now)) }
+        → Holds form.new (ms ++ by_fate fate token.from token.to (form_of kind written.now))) }
 {
     match fate {
-        Fate::Kept => push_part(form, token.from, token.to, bytes),
+        Fate::Kept => push_strict(form, kind, token.from, token.to, written),
         Fate::Dropped => push_part(form, token.from, token.to, b""),
         Fate::Joined => {
             push_part(form, token.from, token.from, b",")?;
-            push_part(form, token.from, token.to, bytes)
+            push_strict(form, kind, token.from, token.to, written)
         }
     }
 }

@@ -160,13 +160,26 @@ fn push_form(out: &mut Vec<u8>, kind: LooseKind, written: &[u8]) -> Result<(), A
     }
 }
 
-/// The strict form of a token with this text.
-pub fn form_of(alloc: Global, kind: LooseKind, written: &[u8]) -> Result<Vec<u8>, AllocError>
-    ensures { IfOk result (λ form. form.items ≡ form_of kind written.now) }
+// Ends a part whose strict form begins at a place of the strict text.
+fn end_part(
+    strict: &mut StrictForm,
+    from: usize,
+    to: usize,
+    start: usize,
+) -> Result<(), AllocError>
+    ensures text { OnOk result (strict.new.text.items ≡ strict.old.text.items ++ 32 ∷ []) }
+    ensures parts { OnOk result (strict.new.parts.items ≡ strict.old.parts.items
+        ++ record { from = from; to = to; start = start; end = length strict.old.text.items } ∷ []) }
 {
-    let mut form = Vec::new(alloc);
-    push_form(&mut form, kind, written)?;
-    Ok(form)
+    let end = strict.text.len();
+    strict.text.push(b' ')?;
+    strict.parts.push(Part {
+        from,
+        to,
+        start,
+        end,
+    })?;
+    Ok(())
 }
 
 /// Appends a strict form that stands for what is written from one place to another.
@@ -181,13 +194,23 @@ pub fn push_part(
 {
     let start = strict.text.len();
     strict.text.extend_from_slice(form)?;
-    let end = strict.text.len();
-    strict.text.push(b' ')?;
-    strict.parts.push(Part {
-        from,
-        to,
-        start,
-        end,
-    })?;
+    end_part(strict, from, to, start)?;
+    Ok(())
+}
+
+/// Appends the strict form of a token with this text, which is written from one place to another.
+pub fn push_strict(
+    strict: &mut StrictForm,
+    kind: LooseKind,
+    from: usize,
+    to: usize,
+    written: &[u8],
+) -> Result<(), AllocError>
+    ensures { OnOk result ((ms : List Mended) → Holds strict.old ms
+        → Holds strict.new (ms ++ record { from = from; to = to; form = form_of kind written.now } ∷ [])) }
+{
+    let start = strict.text.len();
+    push_form(&mut strict.text, kind, written)?;
+    end_part(strict, from, to, start)?;
     Ok(())
 }

@@ -37,6 +37,15 @@ holds_more old new ps p h t e = record {
       ∙ sym (places_more 0 ps p);
 }
 
+-- and so it is where the text had the form, and then a space
+pub form_ended : (old new : PlacedText) (ps : List Put) (p : Put) (text : List ℕ) (start : ℕ) → Holds old ps
+    → text ≡ old.text.items ++ p.form → start ≡ length old.text.items → new.text.items ≡ text ++ 32 ∷ []
+    → new.places.items ≡ old.places.items ++ placed_at start p ∷ [] → Holds new (ps ++ p ∷ [])
+form_ended old new ps p text start h form begins space place =
+    holds_more old new ps p h
+    (space ∙ ap (λ (l : List ℕ). l ++ 32 ∷ []) form ∙ append_assoc old.text.items p.form (32 ∷ []))
+    (place ∙ ap (λ (n : ℕ). old.places.items ++ placed_at n p ∷ []) begins)
+
 -- nothing is put behind them
 pub holds_same : (placed : PlacedText) (ps : List Put) → Holds placed ps → Holds placed (ps ++ [])
 holds_same placed ps h = subst (Holds placed) (sym (append-nil ps)) h

@@ -13,6 +13,12 @@ use Rattle.gtd_hours_moments.specs.Places.{Holds}
 use Rattle.gtd_hours_moments.specs.Plain.{plain_puts}
 use Rattle.gtd_hours_moments.specs.Tokens.{AreTimeTokens, IsTimeFault}
 
+-- The parts are those of the text's tokens.
+pub record ArePartsIn (text : List ℕ) (parts : List Part) : Type 0 where
+  pub tokens : List TimeToken
+  pub are : AreTimeTokens text tokens
+  pub is : parts ≡ parts_of tokens
+
 -- The text with these parts is so: its checked text, how faults of that are told, its forms, and whether one breaks off.
 pub record HasParts (text : List ℕ) (parts : List Part) (read : MomentText) : Type 0 where
   pub checked : Holds read.checked (checked_puts text parts)

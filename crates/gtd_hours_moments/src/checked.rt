@@ -5,22 +5,23 @@ ghost use Rattle.gtd_hours_moments.specs.Checked.{checked_at, checked_puts};
 ghost use Rattle.gtd_hours_moments.specs.Places.{Holds, Put};
 
 use crate::parts::Part;
-use crate::placed::{PlacedText, nothing, push_placed};
+use crate::placed::{PlacedText, end_placed, nothing};
 use crate::times::stretch;
-use crate::written::form_of;
+use crate::written::push_written;
 use std::alloc::{AllocError, Global};
 
-fn push_checked(
-    checked: &mut PlacedText,
-    alloc: Global,
-    text: &[u8],
-    part: Part,
-) -> Result<(), AllocError>
+fn push_checked(checked: &mut PlacedText, text: &[u8], part: Part) -> Result<(), AllocError>
     ensures { OnOk result ((ps : List Put) → Holds checked.old ps
         → Holds checked.new (ps ++ checked_at text.now part ∷ [])) }
 {
-    let form = form_of(alloc, part.written, stretch(text, part.from, part.to))?;
-    push_placed(checked, part.from, form.as_slice())
+    let start = checked.text.len();
+    push_written(
+        &mut checked.text,
+        part.written,
+        stretch(text, part.from, part.to),
+    )?;
+    end_placed(checked, part.from, start)?;
+    Ok(())
 }
 
 /// The checked text of a text with these parts.
@@ -30,7 +31,7 @@ pub fn checked_text(alloc: Global, text: &[u8], parts: &[Part]) -> Result<Placed
     let mut checked = nothing(alloc);
     let mut rest = parts;
     while let Some((part, later)) = rest.split_first() {
-        push_checked(&mut checked, alloc, text, *part)?;
+        push_checked(&mut checked, text, *part)?;
         rest = later;
     }
     Ok(checked)

@@ -1,12 +1,15 @@
 //! The tokens of a text, with what becomes of each.
 
-ghost use Rattle.std.specs.Prelude.{◌≡◌, ◌++◌, ◌∷◌, [], IfOk, OnOk};
+ghost use Rattle.std.specs.Prelude.{◌≡◌, ◌++◌, ◌∷◌, [], IfErr, IfOk, OnOk};
+ghost use Rattle.gtd_hours_moments.specs.Reading.{ArePartsIn, IsNoMomentText};
 ghost use Rattle.gtd_hours_moments.specs.Parts.{breaks_off, forms_of, goes_on, part_of, parts_of, told_at, told_of, whole_of};
 
 use crate::behind::{Behind, Step, Written};
 use crate::moment::TimeForm;
 use crate::steps::step_of;
+use crate::stop::NoMomentText;
 use crate::times::TimeToken;
+use crate::tokens::time_tokens;
 use crate::told::Told;
 use std::alloc::{AllocError, Global};
 
@@ -54,8 +57,8 @@ fn push_part(parts: &mut Vec<Part>, part: Part) -> Result<(), AllocError>
     Ok(())
 }
 
-/// What becomes of the tokens of a text.
-pub fn parts_of(alloc: Global, tokens: &[TimeToken]) -> Result<Vec<Part>, AllocError>
+// What becomes of the tokens of a text.
+fn parts_of(alloc: Global, tokens: &[TimeToken]) -> Result<Vec<Part>, AllocError>
     ensures { IfOk result (λ parts. parts.items ≡ parts_of tokens.now) }
 {
     let mut parts = Vec::new(alloc);
@@ -67,6 +70,17 @@ pub fn parts_of(alloc: Global, tokens: &[TimeToken]) -> Result<Vec<Part>, AllocE
         behind = step.behind;
         rest = later;
     }
+    Ok(parts)
+}
+
+/// The tokens of a text, with what becomes of each. Errors: the first byte with which no token begins; or that there is no
+/// memory.
+pub fn parts_in(alloc: Global, text: &[u8]) -> Result<Vec<Part>, NoMomentText>
+    ensures parts { IfOk result (λ parts. ArePartsIn text.now parts.items) }
+    ensures fault { IfErr result (IsNoMomentText text.now) }
+{
+    let tokens = time_tokens(alloc, text)?;
+    let parts = parts_of(alloc, tokens.as_slice())?;
     Ok(parts)
 }
 

@@ -33,6 +33,17 @@ pub fn nothing(alloc: Global) -> PlacedText
     }
 }
 
+/// Ends a form that stands for what is written at a place, and begins at another one of the text of forms.
+pub fn end_placed(placed: &mut PlacedText, from: usize, start: usize) -> Result<(), AllocError>
+    ensures text { OnOk result (placed.new.text.items ≡ placed.old.text.items ++ 32 ∷ []) }
+    ensures places { OnOk result (placed.new.places.items
+        ≡ placed.old.places.items ++ record { from = from; start = start } ∷ []) }
+{
+    placed.text.push(b' ')?;
+    placed.places.push(Placed { from, start })?;
+    Ok(())
+}
+
 /// Appends a form that stands for what is written at a place.
 pub fn push_placed(placed: &mut PlacedText, from: usize, form: &[u8]) -> Result<(), AllocError>
     ensures { OnOk result ((ps : List Put) → Holds placed.old ps
@@ -40,8 +51,7 @@ pub fn push_placed(placed: &mut PlacedText, from: usize, form: &[u8]) -> Result<
 {
     let start = placed.text.len();
     placed.text.extend_from_slice(form)?;
-    placed.text.push(b' ')?;
-    placed.places.push(Placed { from, start })?;
+    end_placed(placed, from, start)?;
     Ok(())
 }
 

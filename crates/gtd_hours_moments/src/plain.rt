@@ -2,7 +2,6 @@
 
 ghost use Rattle.std.specs.Prelude.{◌≡◌, ◌<◌, ◌++◌, ◌∷◌, List, IfErr, IfOk, OnOk, true};
 ghost use Rattle.gtd_hours.specs.Written.{two_digits};
-ghost use Rattle.gtd_hours_moments.specs.Parts.{parts_of};
 ghost use Rattle.gtd_hours_moments.specs.Places.{Holds, Put};
 ghost use Rattle.gtd_hours_moments.specs.Plain.{clock, joined, kept_at, plain_at, plain_puts, range_text, unless_first};
 ghost use Rattle.gtd_hours_moments.specs.Ranges.{ranges};
@@ -11,12 +10,11 @@ ghost use Rattle.gtd_hours_moments.specs.Reading.{IsNoMomentText, IsPlainText};
 use crate::behind::Written;
 use crate::clocks::Clocks;
 use crate::moment::TimeForm;
-use crate::parts::{Part, parts_of};
+use crate::parts::{Part, parts_in};
 use crate::placed::{PlacedText, nothing, push_placed};
 use crate::ranges::{MinuteRange, ranges_of};
 use crate::stop::NoMomentText;
-use crate::times::{TimeToken, stretch};
-use crate::tokens::time_tokens;
+use crate::times::stretch;
 use std::alloc::{AllocError, Global};
 
 fn push_two_digits(out: &mut Vec<u8>, number: u64) -> Result<(), AllocError>
@@ -135,26 +133,13 @@ fn with_parts(
     Ok(plain)
 }
 
-// The plain text of a text of these tokens.
-fn with_tokens(
-    alloc: Global,
-    text: &[u8],
-    clocks: &Clocks,
-    tokens: &[TimeToken],
-) -> Result<PlacedText, AllocError>
-    ensures { IfOk result (λ plain. Holds plain (plain_puts clocks.now text.now (parts_of tokens.now))) }
-{
-    let parts = parts_of(alloc, tokens)?;
-    with_parts(alloc, text, clocks, parts.as_slice())
-}
-
 /// The plain text of a text whose checked text is plain hours: the ranges of each of its forms with these options, in place of
 /// the form. Errors: the first byte with which no token begins; or that there is no memory.
 pub fn plain_text(alloc: Global, text: &[u8], clocks: &Clocks) -> Result<PlacedText, NoMomentText>
     ensures plain { IfOk result (IsPlainText clocks.now text.now) }
     ensures fault { IfErr result (IsNoMomentText text.now) }
 {
-    let tokens = time_tokens(alloc, text)?;
-    let plain = with_tokens(alloc, text, clocks, tokens.as_slice())?;
+    let parts = parts_in(alloc, text)?;
+    let plain = with_parts(alloc, text, clocks, parts.as_slice())?;
     Ok(plain)
 }

@@ -1,16 +1,13 @@
 //! A text with times of all forms as a checked text and its forms.
 
 ghost use Rattle.std.specs.Prelude.{◌≡◌, IfErr, IfOk};
-ghost use Rattle.gtd_hours_moments.specs.Parts.{parts_of};
 ghost use Rattle.gtd_hours_moments.specs.Reading.{HasParts, IsMomentText, IsNoMomentText};
 
 use crate::checked::checked_text;
 use crate::moment::TimeForm;
-use crate::parts::{Part, breaks_off, forms_of, parts_of, told_of};
+use crate::parts::{Part, breaks_off, forms_of, parts_in, told_of};
 use crate::placed::PlacedText;
 use crate::stop::NoMomentText;
-use crate::times::TimeToken;
-use crate::tokens::time_tokens;
 use crate::told::Told;
 use std::alloc::{AllocError, Global};
 
@@ -42,21 +39,13 @@ fn with_parts(alloc: Global, text: &[u8], parts: &[Part]) -> Result<MomentText, 
     })
 }
 
-// A text of these tokens.
-fn with_tokens(alloc: Global, text: &[u8], tokens: &[TimeToken]) -> Result<MomentText, AllocError>
-    ensures { IfOk result (HasParts text.now (parts_of tokens.now)) }
-{
-    let parts = parts_of(alloc, tokens)?;
-    with_parts(alloc, text, parts.as_slice())
-}
-
 /// The checked text of a text, and its forms of times. Errors: the first byte with which no token begins; or that there is no
 /// memory.
 pub fn moment_text(alloc: Global, text: &[u8]) -> Result<MomentText, NoMomentText>
     ensures text { IfOk result (IsMomentText text.now) }
     ensures fault { IfErr result (IsNoMomentText text.now) }
 {
-    let tokens = time_tokens(alloc, text)?;
-    let read = with_tokens(alloc, text, tokens.as_slice())?;
+    let parts = parts_in(alloc, text)?;
+    let read = with_parts(alloc, text, parts.as_slice())?;
     Ok(read)
 }

@@ -1,10 +1,10 @@
 //! What stands in the checked text.
 
-ghost use Rattle.std.specs.Prelude.{◌≡◌, ◌++◌, IfOk, OnOk};
+ghost use Rattle.std.specs.Prelude.{◌≡◌, ◌++◌, OnOk};
 ghost use Rattle.gtd_hours_moments.specs.Checked.{form_of};
 
 use crate::behind::Written;
-use std::alloc::{AllocError, Global};
+use std::alloc::AllocError;
 
 fn push_time(out: &mut Vec<u8>, time: &[u8], end: &[u8]) -> Result<(), AllocError>
     ensures { OnOk result (out.new.items ≡ out.old.items ++ (time.now ++ end.now)) }
@@ -13,7 +13,12 @@ fn push_time(out: &mut Vec<u8>, time: &[u8], end: &[u8]) -> Result<(), AllocErro
     out.extend_from_slice(end)
 }
 
-fn push_written(out: &mut Vec<u8>, written: Written, bytes: &[u8]) -> Result<(), AllocError>
+/// Appends what stands for a token with these bytes.
+pub fn push_written(
+    out: &mut Vec<u8>,
+    written: Written,
+    bytes: &[u8],
+) -> Result<(), AllocError>
     ensures { OnOk result (out.new.items ≡ out.old.items ++ form_of written bytes.now) }
 {
     match written {
@@ -30,13 +35,4 @@ fn push_written(out: &mut Vec<u8>, written: Written, bytes: &[u8]) -> Result<(),
         Written::Nothing => Ok(()),
         Written::Misfit(_) => out.extend_from_slice(b"PH"),
     }
-}
-
-/// What stands for a token with these bytes.
-pub fn form_of(alloc: Global, written: Written, bytes: &[u8]) -> Result<Vec<u8>, AllocError>
-    ensures { IfOk result (λ form. form.items ≡ form_of written bytes.now) }
-{
-    let mut form = Vec::new(alloc);
-    push_written(&mut form, written, bytes)?;
-    Ok(form)
 }
