@@ -4,7 +4,8 @@
 . "$(dirname "$0")/build.sh"
 days=146097
 count() { # instructions of one run
-    valgrind --tool=callgrind --callgrind-out-file="$work/callgrind" "$program" "$1" 2>&1 > "$work/sum" | sed -n 's/.*Collected : //p'
+    valgrind --tool=callgrind --callgrind-out-file="$work/callgrind" "$program" "$1" 2>&1 > "$work/sum" |
+        sed -n 's/.*Collected : //p'
 }
 look() { # instructions of one look at a day
     local none all

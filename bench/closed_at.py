@@ -2,8 +2,8 @@
 """What a question takes that asks whether an element is closed: `closed_at.py PROGRAM`, where `closed_at.sh` builds the program.
 
 The program is a small one over the public call `Records::closed_at`; `closed_at.rs` is a plain native table of the same file.
-The file has 65,536 elements with one row each, of daily or weekly hours. Both answer the same questions, and must find as many closed.
-Prints a Markdown table: the least time of some runs in turns, less that of runs without questions, for each question;
+The file has 65,536 elements with one row each, of daily or weekly hours. Both answer the same questions, and must find as many
+closed. Prints a Markdown table: the least time of some runs in turns, less that of runs without questions, for each question;
 instructions, where there is valgrind; and the peak memory. Ends with status 1 if a question takes more than three times what the
 native table takes."""
 import os

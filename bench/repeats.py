@@ -3,9 +3,9 @@
 
 `gtdesk faults` of an accepted file reads every row, keeps none and prints nothing; `gtdesk now` of one element that has no row
 reads the file into its records, as every report does, and prints a header. The goal is that `same --file` takes at most three
-times what reading into records takes, where texts repeat. It needs a built `gtdesk` (`rt ci` builds it), and what `measuring.py` says.
-Prints a table of Markdown for 400 texts that repeat, for the mixes of `now.py`, and for texts that are all different: the best of
-five times of each command, taken in turns."""
+times what reading into records takes, where texts repeat. It needs a built `gtdesk` (`rt ci` builds it), and what `measuring.py`
+says. Prints a table of Markdown for 400 texts that repeat, for the mixes of `now.py`, and for texts that are all different: the
+best of five times of each command, taken in turns."""
 import itertools
 import os
 import sys

@@ -153,8 +153,8 @@ def places(program):
 
 
 def patterns(program, first, kinds):
-    """What a shell completes: for each kind of what is due, the patterns of the places where it is. All options of a place are one
-    kind. They come first, since they begin with a sign of their own."""
+    """What a shell completes: for each kind of what is due, the patterns of the places where it is. All options of a place are
+    one kind. They come first, since they begin with a sign of their own."""
     found, options = {}, {}
     for command, place, word in places(program):
         if word.startswith("--"):

@@ -1,7 +1,7 @@
 #!/usr/bin/env bash
 # All tests, one part after another: proofs and wrong bodies, then the built programs and the documents. It installs what is
-# missing, goes on if a part fails, prints a line for each part with its time, and ends in the sums. `--anew` has `rt ci` prove all
-# again, and take nothing from what earlier runs on this machine kept.
+# missing, goes on if a part fails, prints a line for each part with its time, and ends in the sums. `--anew` has `rt ci` prove
+# all again, and take nothing from what earlier runs on this machine kept.
 #
 # Usage: tests/all.sh [--anew]
 set -u

@@ -67,7 +67,8 @@ class Uncovered(conditional_model.Fault):
 def warnings_of(data, rules, options):
     """The warnings of hours that have these rules; of rules that hide hours only those of plain ones."""
     try:
-        return [f"{kind} at {at}" + (f": {form}" if form else "") for kind, at, form in hidden_model.warnings(data, options.german)]
+        return [f"{kind} at {at}" + (f": {form}" if form else "")
+                for kind, at, form in hidden_model.warnings(data, options.german)]
     except hours_model.Fault:
         return wider_model.warnings(data, rules, known_program.pair_of(options.years))
 
@@ -131,8 +132,8 @@ def of_hours(warnings):
 
 
 def compare(check, data, means, room, options=LOOSE):
-    """Compares the program with the model on the bytes of a file of tags. Hours of which the model writes no domain are left out: a
-    damaged value may have them."""
+    """Compares the program with the model on the bytes of a file of tags. Hours of which the model writes no domain are left out:
+    a damaged value may have them."""
     table, bytes_of_means = means
     try:
         expected, warnings, faults = conditional_model.put(data, table, options)
@@ -160,7 +161,8 @@ def compare_meaning(check, tags, means, room, options, chance):
     """Compares the program with the model on the tags of one element: faults and warnings, and when the rows close at seconds."""
     table, bytes_of_means = means
     says, _, warnings, faults = conditional_model.read_tags(tags, table, options)
-    status, output, errors = run(written([["element", "key", "value"], *([7, *tag] for tag in tags)]), bytes_of_means, room, options)
+    data = written([["element", "key", "value"], *([7, *tag] for tag in tags)])
+    status, output, errors = run(data, bytes_of_means, room, options)
     told = [line for _, line in heads(errors, "tags.csv") if " warning Hours Hides " not in line]
     wanted = faults or [line for line in of_hours(warnings) if " warning Hours Hides " not in line]
     if not faults and status == 1 and all(line.endswith(": TooMany at 0") for line in told):
@@ -268,7 +270,8 @@ def wide_tags(chance, table):
     keys = [key for mode in table.modes for key in conditional_model.keys_of(mode).values() if not key.startswith("oneway")]
     tags = []
     for key in chance.sample(keys, chance.randint(1, 2)):
-        parts = [f"{chance.choice(('no', 'yes', 'destination'))} @ {' AND '.join(wide_term(chance) for _ in range(chance.randint(1, 2)))}"
+        parts = [f"{chance.choice(('no', 'yes', 'destination'))} @ "
+                 f"{' AND '.join(wide_term(chance) for _ in range(chance.randint(1, 2)))}"
                  for _ in range(chance.randint(1, 2))]
         tags.append((key + conditional_model.CONDITIONAL, "; ".join(parts).encode().decode("latin-1")))
     return tags

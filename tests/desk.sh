@@ -204,10 +204,13 @@ listed() {
 expected='    expected: element,direction,vehicle,domain (or vehicles)'
 listed 'an empty file' '' $'bad.csv:1: Header\n    found:    \n'"$expected"
 listed 'a wrong header' $'element;direction\r\n1,both,0,\n' $'bad.csv:1: Header\n    found:    element;direction\n'"$expected"
-listed 'lines that end with two bytes, and an empty line' $'element,direction,vehicle,domain\r\n1,both,0,\r\n1,up,0,\r\n\r\n1,x,0,\r\n' \
-    $'bad.csv:3: row 2: Direction\n    up\n    ^\n    expected: positive, negative or both\nbad.csv:5: row 3: Direction\n    x\n    ^\n    expected: positive, negative or both'
+listed 'lines that end with two bytes, and an empty line' \
+    $'element,direction,vehicle,domain\r\n1,both,0,\r\n1,up,0,\r\n\r\n1,x,0,\r\n' \
+    $'bad.csv:3: row 2: Direction\n    up\n    ^\n    expected: positive, negative or both
+bad.csv:5: row 3: Direction\n    x\n    ^\n    expected: positive, negative or both'
 listed 'bytes that are shown escaped' "$top_line"$'1,both,0,\\\xc3\xa9(h25)\n' \
-    $'bad.csv:2: row 1: Domain BadToken at 0\n    \\x5c\\xc3\\xa9(h25)\n    ^\n    expected: a letter with 1 to 6 digits, a space, or one of ( ) { } [ ] + * -'
+    $'bad.csv:2: row 1: Domain BadToken at 0\n    \\x5c\\xc3\\xa9(h25)\n    ^
+    expected: a letter with 1 to 6 digits, a space, or one of ( ) { } [ ] + * -'
 # A hint for a first line that is nearly a header: the first of those that apply, and none for another line.
 hinted() {
     [ "$2" = - ] || printf "$2" > bad.csv
@@ -259,9 +262,11 @@ listed 'a field of 100 columns' "$top_line$(times 100 x)"$',both,0,\n' \
 listed 'a longer field' "$top_line$(times 101 x)"$',both,0,\n' \
     $'bad.csv:2: row 1: Element\n    '"$(times 50 x)"$'...\n    ^\n    expected: 1 to 10 digits'
 listed 'a domain cut on both sides' "$top_line"$'1,both,0,'"$(times 60 ' ')(h25){h1}$(times 60 ' ')"$'\n' \
-    $'bad.csv:2: row 1: Domain FieldRange at 61\n    ...'"$(times 39 ' ')(h25){h1}$(times 42 ' ')"$'...\n'"$(times 47 ' ')^"$'\n    expected: 0 to 23 for an hour'
+    $'bad.csv:2: row 1: Domain FieldRange at 61\n    ...'"$(times 39 ' ')(h25){h1}$(times 42 ' ')"$'...\n'"$(times 47 ' ')^
+    expected: 0 to 23 for an hour"
 listed 'a domain cut on the left' "$top_line"$'1,both,0,'"$(times 100 ' ')(h25){h1}"$'\n' \
-    $'bad.csv:2: row 1: Domain FieldRange at 101\n    ...'"$(times 39 ' ')(h25){h1}"$'\n'"$(times 47 ' ')^"$'\n    expected: 0 to 23 for an hour'
+    $'bad.csv:2: row 1: Domain FieldRange at 101\n    ...'"$(times 39 ' ')(h25){h1}"$'\n'"$(times 47 ' ')^
+    expected: 0 to 23 for an hour"
 listed 'a field cut where bytes are shown escaped' "$top_line$(times 26 '\\')"$',both,0,\n' \
     $'bad.csv:2: row 1: Element\n    '"$(times 12 '\\x5c')"$'...\n    ^\n    expected: 1 to 10 digits'
 listed 'a first line that is cut' "$(times 101 x)"$'\n' $'bad.csv:1: Header\n    found:    '"$(times 50 x)"$'...\n'"$expected"
@@ -303,13 +308,16 @@ run picture-domain '(h5){h1}' 1900
 expect 'no year of a domain' 1 '' 'gtdesk: YEAR: not a number from 1901 to 2199'
 # The words of a domain.
 run words '[(M4d1){M3}]*[(h22){h8}]'
-expect 'words' 0 $'from 1 April every year until 30 June (included)\nand all this only in: each day from 22:00 until 06:00 the next day' ''
+expect 'words' 0 'from 1 April every year until 30 June (included)
+and all this only in: each day from 22:00 until 06:00 the next day' ''
 run words '(h25){h1}'
 expect 'words of no domain' 1 '' $'gtdesk: DOMAIN: FieldRange at 1\n    (h25){h1}\n     ^\n    expected: 0 to 23 for an hour'
 run words ''
-expect 'words of nothing' 1 '' $'gtdesk: DOMAIN: Incomplete at 0\n    \n    ^\n    expected: (start){duration} in full, and a ] for each ['
+expect 'words of nothing' 1 '' $'gtdesk: DOMAIN: Incomplete at 0\n    \n    ^
+    expected: (start){duration} in full, and a ] for each ['
 run words -- '-(h10){h1}'
-expect 'words of a domain with a sign in front' 1 '' $'gtdesk: DOMAIN: Unexpected at 0\n    -(h10){h1}\n    ^\n    expected: (start){duration} or [..] at the beginning and after an operator, and + * - or ] after one of them'
+expect 'words of a domain with a sign in front' 1 '' $'gtdesk: DOMAIN: Unexpected at 0\n    -(h10){h1}\n    ^
+    expected: (start){duration} or [..] at the beginning and after an operator, and + * - or ] after one of them'
 run words
 expect 'words without a domain' 2 '' "gtdesk: command line: one or more required arguments were not provided $see"
 
@@ -323,7 +331,8 @@ expect 'no hours' 1 '' 'gtdesk: DOMAIN: no opening hours are found that have its
 run hours --of '(h25){h1}'
 expect 'hours of no domain' 1 '' $'gtdesk: DOMAIN: FieldRange at 1\n    (h25){h1}\n     ^\n    expected: 0 to 23 for an hour'
 run hours --of ''
-expect 'hours of nothing' 1 '' $'gtdesk: DOMAIN: Incomplete at 0\n    \n    ^\n    expected: (start){duration} in full, and a ] for each ['
+expect 'hours of nothing' 1 '' $'gtdesk: DOMAIN: Incomplete at 0\n    \n    ^
+    expected: (start){duration} in full, and a ] for each ['
 run hours
 expect 'hours of neither' 2 '' "gtdesk: command line: hours takes either TEXT or --of DOMAIN $see"
 run hours Mo-Fr --of '(h0m0){d1}'
@@ -343,24 +352,31 @@ expect 'a text that is written loosely' 0 '[[(t2t3t4t5t6h0m0){d1}]*[(h7m30){m270
 run mend hours 'Mo-Fr 7:30-12:00'
 expect 'its strict form' 0 'Mo-Fr 07:30-12:00' ''
 run hours --strict 'Mo-Fr 7:30-12:00'
-expect 'a byte that begins no token' 1 '' $'gtdesk: TEXT: BadToken at 6\n    Mo-Fr 7:30-12:00\n          ^\n    expected: words, numbers and signs of opening hours, such as Mo-Fr 08:00-18:00'
+expect 'a byte that begins no token' 1 '' $'gtdesk: TEXT: BadToken at 6\n    Mo-Fr 7:30-12:00\n          ^
+    expected: words, numbers and signs of opening hours, such as Mo-Fr 08:00-18:00'
 run hours 'Mo-Fr 08:00-18:00; PH off'
-expect 'holidays' 1 '' $'gtdesk: TEXT: Holidays at 19\n    Mo-Fr 08:00-18:00; PH off\n                       ^\n    expected: a table of such holidays: give one with --holidays FILE'
+expect 'holidays' 1 '' $'gtdesk: TEXT: Holidays at 19\n    Mo-Fr 08:00-18:00; PH off\n                       ^
+    expected: a table of such holidays: give one with --holidays FILE'
 run hours 'Apr 10-31'
-expect 'a day that its month never has' 1 '' $'gtdesk: TEXT: Range at 7\n    Apr 10-31\n           ^\n    expected: a number or a time in its range, such as 08:00 or Apr 30'
+expect 'a day that its month never has' 1 '' $'gtdesk: TEXT: Range at 7\n    Apr 10-31\n           ^
+    expected: a number or a time in its range, such as 08:00 or Apr 30'
 run hours ''
-expect 'an empty text of hours' 1 '' $'gtdesk: TEXT: Incomplete at 0\n    \n    ^\n    expected: more: the second part of a range, or what follows a sign'
+expect 'an empty text of hours' 1 '' $'gtdesk: TEXT: Incomplete at 0\n    \n    ^
+    expected: more: the second part of a range, or what follows a sign'
 run hours 'Mo-Fr 12am-5am'
-expect 'hours that are read in two ways' 1 '' $'gtdesk: TEXT: Ambiguous at 6\n    Mo-Fr 12am-5am\n          ^\n    expected: what is read in one way: weekdays in English, and times such as 08:00'
+expect 'hours that are read in two ways' 1 '' $'gtdesk: TEXT: Ambiguous at 6\n    Mo-Fr 12am-5am\n          ^
+    expected: what is read in one way: weekdays in English, and times such as 08:00'
 run same --hours 24/7 'Mo-Fr PH off'
-expect 'the second of two texts' 1 '' $'gtdesk: SECOND: Unsupported at 6\n    Mo-Fr PH off\n          ^\n    expected: years, weeks, dates, weekdays and times; and where the command reads them, holidays and comments'
+expect 'the second of two texts' 1 '' $'gtdesk: SECOND: Unsupported at 6\n    Mo-Fr PH off\n          ^
+    expected: years, weeks, dates, weekdays and times; and where the command reads them, holidays and comments'
 run words "$(printf '%70s' '')(M13){M1}$(printf '%70s' '')"
 expect 'a long word' 1 '' "gtdesk: DOMAIN: FieldRange at 71
     ...$(printf '%39s' '')(M13){M1}$(printf '%42s' '')...
     $(printf '%43s' '')^
     expected: 1 to 12 for a month"
 run hours '1800-2056/2'
-expect 'a domain too large' 1 '' $'gtdesk: TEXT: TooMany at 0\n    1800-2056/2\n    ^\n    expected: hours that take at most 128 basic domains; these take 129'
+expect 'a domain too large' 1 '' $'gtdesk: TEXT: TooMany at 0\n    1800-2056/2\n    ^
+    expected: hours that take at most 128 basic domains; these take 129'
 run hours $'Mo\xff'
 expect 'hours that are no text' 2 '' "gtdesk: command line: a word is no text $see"
 
@@ -369,8 +385,10 @@ printf '%s\n' element,direction,vehicle,domain '1,both,0,[(h5){h1}]*[(h7){h1}]' 
     '4,both,0,(h7){h2}' 5,both,0, '6,both,0,(y1800){y1}' > warn.csv
 never=$'never-holds: at no second\n    ' always=$'always-holds: at each second, as if no domain were given\n    (h0){h24}\n    ^'
 run faults --warn warn.csv
-expect 'faults and warnings' 1 $'warn.csv:4: row 3: Direction\n    up\n    ^\n    expected: positive, negative or both\nwarn.csv:2: row 1: '\
-"$never"$'[(h5){h1}]*[(h7){h1}]\n     ^\nwarn.csv:3: row 2: '"$always"$'\nwarn.csv:7: row 6: '"$never"$'(y1800){y1}\n    ^' ''
+expect 'faults and warnings' 1 $'warn.csv:4: row 3: Direction\n    up\n    ^\n    expected: positive, negative or both
+warn.csv:2: row 1: '"$never"$'[(h5){h1}]*[(h7){h1}]\n     ^
+warn.csv:3: row 2: '"$always"$'
+warn.csv:7: row 6: '"$never"$'(y1800){y1}\n    ^' ''
 run faults warn.csv
 expect 'faults without warnings' 1 $'warn.csv:4: row 3: Direction\n    up\n    ^\n    expected: positive, negative or both' ''
 sed -i -e 4d -e 2d warn.csv
@@ -397,8 +415,11 @@ expect 'records of standard input' 0 $'element,direction,vehicles,domain\n1,both
 2,positive,11;12,' ''
 printf '%s\n' element,direction,vehicles,hours '1,both,0,Apr 10-31' '1,up,0,24/7' '1,both,0,24/7' '1,both,0,1800-2056/2' > bad.csv
 run records bad.csv
-expect 'faults of hours' 1 '' $'bad.csv:2: row 1: Hours Range at 7\n    Apr 10-31\n           ^\n    expected: a number or a time in its range, such as 08:00 or Apr 30\nbad.csv:3: row 2: Direction
-    up\n    ^\n    expected: positive, negative or both\nbad.csv:5: row 4: Hours TooMany at 0\n    1800-2056/2\n    ^\n    expected: hours that take at most 128 basic domains; these take 129'
+expect 'faults of hours' 1 '' $'bad.csv:2: row 1: Hours Range at 7\n    Apr 10-31\n           ^
+    expected: a number or a time in its range, such as 08:00 or Apr 30
+bad.csv:3: row 2: Direction\n    up\n    ^\n    expected: positive, negative or both
+bad.csv:5: row 4: Hours TooMany at 0\n    1800-2056/2\n    ^
+    expected: hours that take at most 128 basic domains; these take 129'
 run records a.csv
 expect 'no file of hours' 1 '' $'a.csv:1: Header\n    found:    element,direction,vehicle,domain
     expected: element,direction,vehicles,hours'
@@ -422,20 +443,27 @@ run hours 'Feb 1,24/7'
 expect 'a rule of days alone before 24/7' 0 '[[(M2d1h0m0){d1}]+[(h0m0){d1}]]' 'gtdesk: TEXT: warning WholeDay at 0: open'
 printf 'first,last,kind,name\n2026-01-01,2026-12-31,PH-covered,\n2026-12-25,,PH,Christmas\n' > days.csv
 run hours --holidays days.csv --years 2026 'Mo 08:00-12:00; Mo 13:00-17:00; PH off'
-expect 'hidden hours beside holidays' 0 '[[[[[(t2h0m0){d1}]*[(h8m0){m240}]]-[(t2h0m0){d1}]]+[[(t2h0m0){d1}]*[(h13m0){m240}]]]-[(y2026M12d25h0m0){d1}]]' \
-    $'gtdesk: TEXT: warning Hides at 16: Mo 08:00-12:00, Mo 13:00-17:00; PH off\ngtdesk: TEXT: warning KnownYears at 32: 2026-2026'
+expect 'hidden hours beside holidays' 0 \
+    '[[[[[(t2h0m0){d1}]*[(h8m0){m240}]]-[(t2h0m0){d1}]]+[[(t2h0m0){d1}]*[(h13m0){m240}]]]-[(y2026M12d25h0m0){d1}]]' \
+    'gtdesk: TEXT: warning Hides at 16: Mo 08:00-12:00, Mo 13:00-17:00; PH off
+gtdesk: TEXT: warning KnownYears at 32: 2026-2026'
 
 # Tags with hours that need a table of holidays.
 printf 'element,key,value\n7,access:conditional,no @ (10:00-12:00; PH off)\n' > tags.csv
 printf 'kind,name,means\nmode,access,0\n' > means.csv
 printf 'first,last,kind,name\n2026-01-01,2026-12-31,PH-covered,\n2026-12-25,,PH,Christmas\n' > days.csv
 run conditions --holidays days.csv --years 2026 tags.csv means.csv
-expect 'tags with holidays' 0 $'element,direction,vehicles,domain\n7,both,0,[[[(h0m0){d1}]*[(h10m0){m120}]]-[(y2026M12d25h0m0){d1}]]' \
+expect 'tags with holidays' 0 \
+    $'element,direction,vehicles,domain\n7,both,0,[[[(h0m0){d1}]*[(h10m0){m120}]]-[(y2026M12d25h0m0){d1}]]' \
     'tags.csv:2: row 1: warning Hours KnownYears at 19: 2026-2026'
 run conditions tags.csv means.csv
-expect 'no table of holidays' 1 '' $'tags.csv:2: row 1: Hours Holidays at 19\n    no @ (10:00-12:00; PH off)\n                       ^\n    expected: a table of such holidays: give one with --holidays FILE'
+expect 'no table of holidays' 1 '' \
+    $'tags.csv:2: row 1: Hours Holidays at 19\n    no @ (10:00-12:00; PH off)\n                       ^
+    expected: a table of such holidays: give one with --holidays FILE'
 run conditions --holidays days.csv --years 2025-2026 tags.csv means.csv
-expect 'a day that the table does not cover' 1 '' $'tags.csv:2: row 1: Hours Uncovered at 19: 2025-01-01\n    no @ (10:00-12:00; PH off)\n                       ^\n    expected: a table with all holidays of these years, and rows that say so: PH-covered or SH-covered'
+expect 'a day that the table does not cover' 1 '' \
+    $'tags.csv:2: row 1: Hours Uncovered at 19: 2025-01-01\n    no @ (10:00-12:00; PH off)\n                       ^
+    expected: a table with all holidays of these years, and rows that say so: PH-covered or SH-covered'
 run conditions --holidays means.csv --years 2026 tags.csv means.csv
 expect 'no table' 1 '' 'gtdesk: means.csv: Header'
 run conditions --holidays - --years 2026 - means.csv < days.csv

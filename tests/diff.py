@@ -160,7 +160,8 @@ def pairs(rng, count):
             rng.shuffle(new)
             days = range(day_of(first), day_of(last))
             text = HEADER + "".join(
-                f"9,positive,{vehicle},closed,{stamp(day * model.DAY + hour * 3600)},{stamp(day * model.DAY + (hour + 1) * 3600)}\n"
+                f"9,positive,{vehicle},closed,"
+                f"{stamp(day * model.DAY + hour * 3600)},{stamp(day * model.DAY + (hour + 1) * 3600)}\n"
                 for day in days)
         else:
             new = changed_rows(rng, old) if rng.random() < 0.7 else random_rows(rng)

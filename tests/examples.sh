@@ -38,8 +38,8 @@ must_show() {
     echo "FAILED $1: it shows no command"
 }
 
-# document FILE: in fenced blocks, each line `$ COMMAND`, and the lines up to the next `$ ` or the block's end. Lines `> TEXT` right
-# below a command go on with it.
+# document FILE: in fenced blocks, each line `$ COMMAND`, and the lines up to the next `$ ` or the block's end. Lines `> TEXT`
+# right below a command go on with it.
 document() {
     local line command='' fenced=0 number=0 at=0 shown=0 more=0
     while IFS= read -r line || [ -n "$line" ]; do

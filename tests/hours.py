@@ -5,9 +5,9 @@ For each row of tests/hours/texts.csv, the hours and the time domain beside them
 hours by the model of hours, the domain by the plain model of domains, tests/model.py. For each row of tests/hours/faults.csv,
 the text has that fault. For each row of tests/hours/loose.csv, by the model of tests/loose_model.py, the text has that mended
 text and these warnings, or that fault. A row with both is no plain hours, but by the wider model, tests/wider_model.py, it means
-what the mended text means, where the times of the sun are given. Then, for SECONDS, random texts of the grammar: they are read, what is printed of them is
-read again and means the same, a damaged text has its fault where the words before it can still become hours, and with the next
-one cannot, and a text whose tokens are written loosely means the same, with a warning at each of them.
+what the mended text means, where the times of the sun are given. Then, for SECONDS, random texts of the grammar: they are read,
+what is printed of them is read again and means the same, a damaged text has its fault where the words before it can still become
+hours, and with the next one cannot, and a text whose tokens are written loosely means the same, with a warning at each of them.
 
 Usage: tests/hours.py [SECONDS [SEED]]    (without SECONDS no random texts; the same seed makes the same texts)
 """
@@ -279,7 +279,8 @@ class Maker(random.Random):
     def damaged(self, text):
         """The tokens of a text, some of them removed, doubled, or changed for others."""
         found = [token.text for token in hours_model.tokens(text.encode())]
-        others = "Mo Jan week off 24 / 7 - , ; : [ ] 0 5 40 2024 1700 10:00 25:00 30:00 49:00 PH + || day 2026+ 2025/8 2025/2 46-12".split()
+        others = ("Mo Jan week off 24 / 7 - , ; : [ ] 0 5 40 2024 1700 10:00 25:00 30:00 49:00 PH + || "
+                  "day 2026+ 2025/8 2025/2 46-12").split()
         for _ in range(self.randint(1, 2)):
             at = self.randrange(len(found) + 1)
             found[at:at + self.randint(0, 1)] = self.choices(others, k=self.randint(0, 2))
@@ -297,7 +298,8 @@ def check_damaged(text):
     if fault is None or DATED_RANGE.search(text):
         return
     kind, place = fault
-    expect(kind in ("Unsupported", "Range", "Years", "Unexpected", "Incomplete") and 0 <= place <= len(text), f"{text!r}: {fault}")
+    expect(kind in ("Unsupported", "Range", "Years", "Unexpected", "Incomplete") and 0 <= place <= len(text),
+           f"{text!r}: {fault}")
     expect((kind == "Incomplete") == (place == len(text)), f"{text!r}: {fault}")
     until = place + len((text[place:].split(" ") or [""])[0])
     if kind == "Range" and text[until:until + 2] == " /":

@@ -1,7 +1,7 @@
 #!/usr/bin/env python3
 """The table of features in docs/HOURS.md beside the built program `gtdesk hours`: each example is read, read by an option and
-refused without it, or refused, with the kind of fault that the table names. Run it after `rt ci`, which builds the programs; GTDESK
-in the environment names another one.
+refused without it, or refused, with the kind of fault that the table names. Run it after `rt ci`, which builds the programs;
+GTDESK in the environment names another one.
 
 Usage: tests/hours_features.py
 """

@@ -32,8 +32,8 @@ class EasterRange(NamedTuple):
 
 
 class EveryYears(NamedTuple):
-    """Every so many years from a first one up to the last that is known: more of the calendar than a domain has. The place is that
-    of its slash."""
+    """Every so many years from a first one up to the last that is known: more of the calendar than a domain has. The place is
+    that of its slash."""
     first: int
     step: int
     place: int
@@ -100,8 +100,9 @@ class Reader(hours_model.Reader):
         return self.peek(at) in ("+", "-") and self.peek(at + 1) == "number" and self.peek(at + 2) == "day"
 
     def is_moving(self, at, dated):
-        """Whether a range that moves begins behind so many tokens: with a place in a month or with Easter, and a dash behind it and
-        its offset; or with a date, behind which come a dash, a year if there is one before, and `easter` or a month and a weekday."""
+        """Whether a range that moves begins behind so many tokens: with a place in a month or with Easter, and a dash behind it
+        and its offset; or with a date, behind which come a dash, a year if there is one before, and `easter` or
+        a month and a weekday."""
         if self.peek(at) == "easter":
             if self.goes_with_days(at + 1):
                 return self.peek(at + 4) == "-"
@@ -241,7 +242,9 @@ class Reader(hours_model.Reader):
 
     def days(self, kinds):
         """Holidays, which restrict weekdays directly behind them; or one list of holidays and weekdays."""
-        items = self.listed(self.day_item, lambda: self.peek(1) in ("weekday", "holiday")) if self.peek() in ("weekday", "holiday") else []
+        items = []
+        if self.peek() in ("weekday", "holiday"):
+            items = self.listed(self.day_item, lambda: self.peek(1) in ("weekday", "holiday"))
         if items and all(isinstance(item, Holiday) for item in items) and self.peek() == "weekday":
             kinds["holidays"] = items
             items = self.listed(self.weekdays, lambda: self.peek(1) in ("weekday", "holiday"), led=True)

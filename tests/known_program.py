@@ -1,11 +1,12 @@
 #!/usr/bin/env python3
-"""The built program `gtdesk hours --holidays FILE --years F-L TEXT` beside the plain models of hours with holidays and of domains.
+"""The built program `gtdesk hours --holidays FILE --years F-L TEXT` beside the plain models of hours with holidays and
+of domains.
 
-For each row of tests/hours/holidays.csv, the domain that is printed is the one beside it and contains the same minutes of four years
-as the hours by tests/known_model.py, and its warning is told; or its fault is. Then, for SECONDS, drawn texts, tables and years: the
-domains are compared at the first and the last minutes of stretches and at random seconds, before, in and after the years; and the
-faults of texts that are damaged. Run it after `rt ci`, which builds the programs; GTDESK in the environment
-names another one.
+For each row of tests/hours/holidays.csv, the domain that is printed is the one beside it and contains the same minutes of four
+years as the hours by tests/known_model.py, and its warning is told; or its fault is. Then, for SECONDS, drawn texts, tables and
+years: the domains are compared at the first and the last minutes of stretches and at random seconds, before, in and after the
+years; and the faults of texts that are damaged. Run it after `rt ci`, which builds the programs; GTDESK in the environment names
+another one.
 
 Usage: tests/known_program.py [SECONDS [SEED]]    (without SECONDS no drawn texts; the same seed draws the same)
 """
@@ -31,14 +32,18 @@ DAYS = ["PH", "SH", "PH +1 day", "PH -3 days", "Mo", "Tu-Fr", "Sa[1,-1]", "Su[2]
 FRONTS = ["", "", "", "Dec", "Dec 24,25", "Jan-Mar,2025 May 1", "2025", "2025,2027", "week 10", "week 10,20-22:"]
 FRONTS += ["Mar Su[-1]-Oct Su[1]", "Oct 15-Dec Su[1],Jan 6", "Dec 24,Mar Su[-1] +1 day-Oct 3,2025 May 1:"]
 FRONTS += ["2025 Sep Fr[2] -3 days-Apr Mo[1]", "2025-2026 Oct Sa[2]-Jan 3", "easter", "easter -2 days,easter +1 day"]
-FRONTS += ["Dec 24,easter +49 days,Jan 6", "2025,2026,easter:", "easter-Oct 31", "Jan 6-easter -47 days,2026 easter", "2025,2026 easter"]
+FRONTS += ["Dec 24,easter +49 days,Jan 6", "2025,2026,easter:", "easter-Oct 31", "Jan 6-easter -47 days,2026 easter",
+           "2025,2026 easter"]
 FRONTS += ["Nov 1-easter", "Mar Su[-1]-easter +50 days", "2026 easter -2 days-2026 easter +1 day", "2025 easter-Oct 3,Dec 24:"]
-FRONTS += ["easter,Dec 24,easter +1 day", "Mar Su[-1]-Oct Su[1],Dec 24,31", "Jan,easter,Apr Mo[1]-May 5,2025 Dec 24-Jan 3,easter -2 days"]
+FRONTS += ["easter,Dec 24,easter +1 day", "Mar Su[-1]-Oct Su[1],Dec 24,31",
+           "Jan,easter,Apr Mo[1]-May 5,2025 Dec 24-Jan 3,easter -2 days"]
 FRONTS += ["2025/2", "2025,2026/3:", "2011/2,2024 Dec 24", "2027/6 week 10", "2026/4 easter"]
 TIMES = ["", "10:00-12:00", "22:00-04:00", "08:00-09:00,22:00-02:00"]
-WORDS = DAYS + ["SH +1 day", "PH +0 days", "PH +Mo", "PH +1", ",", ";", ":", "-", "+", "24/7", "[", "]", "1", "off", "open", "easter"]
+WORDS = DAYS + ["SH +1 day", "PH +0 days", "PH +Mo", "PH +1", ",", ";", ":", "-", "+", "24/7", "[", "]", "1", "off", "open",
+                "easter"]
 WORDS += ["Dec", "2025", "10:00-12:00", ",PH", ",SH", "PH,SH", "Mo,"]
-WORDS += ["Su[1]", "Su[-1]-", "-Oct", "Mar Su[-1]-Oct Su[1]", "24-Jun Fr[2]", "easter +Mo", "easter +1", "-easter", "2026 easter", "easter-", "easter -Mo"]
+WORDS += ["Su[1]", "Su[-1]-", "-Oct", "Mar Su[-1]-Oct Su[1]", "24-Jun Fr[2]", "easter +Mo", "easter +1", "-easter",
+          "2026 easter", "easter-", "easter -Mo"]
 WORDS += ["2025/2", "/2", "/8", ",2026/3"]
 
 
@@ -94,7 +99,8 @@ def drawn_table(chance):
     first = chance.choice((1802, 2024, 2025))
     last = first + chance.choice((0, 1, 2))
     begin, end = holidays_model.number(first, 1, 1), holidays_model.number(last, 12, 31)
-    rows = [(begin, end + chance.choice((0, 0, 0, -1)), kind, True) for kind in chance.choice((("PH", "SH"), ("PH", "SH"), ("PH",)))]
+    rows = [(begin, end + chance.choice((0, 0, 0, -1)), kind, True)
+            for kind in chance.choice((("PH", "SH"), ("PH", "SH"), ("PH",)))]
     for kind in {row[2] for row in rows}:
         for _ in range(chance.randrange(8)):
             day = chance.choice((begin, chance.randrange(begin, end)))
@@ -154,8 +160,8 @@ def check_drawn(chance, folder):
 
 
 def tried(name, worked, check_row, check_drawn, fewest):
-    """Checks the worked rows, and for as many seconds as are asked for drawn texts, of which one in so many at least has a domain.
-    Prints what failed, and the counts; answers whether something failed."""
+    """Checks the worked rows, and for as many seconds as are asked for drawn texts, of which one in so many at least has a
+    domain. Prints what failed, and the counts; answers whether something failed."""
     if not os.path.exists(PROGRAM):
         sys.exit(f"no program at {PROGRAM}: run rt ci first")
     seconds = float(sys.argv[1]) if len(sys.argv) > 1 else 0

@@ -127,8 +127,8 @@ agree 'ask.c, sanitized' "$room/answers" "$room/ask.asan"
 counted 'handles' "$room/handles"
 counted 'handles, sanitized' "$room/handles.asan"
 
-# Of C++ all but handles that stand for nothing and names by number; what comes before a number out of range is not told there, nor
-# that one of two domains that are the same gives a year.
+# Of C++ all but handles that stand for nothing and names by number; what comes before a number out of range is not told there,
+# nor that one of two domains that are the same gives a year.
 paste -d '\t' "$room/questions" "$room/answers" | sed $'s/^\(same .*\t\)year$/\\1yes/' |
     grep -v $'^\(fault_name\|record_fault_name\|hours_fault_name\|close\|.*\tkind$\)' > "$room/pairs"
 cut -f 1 "$room/pairs" > "$room/asked"

@@ -1,6 +1,6 @@
 #!/usr/bin/env python3
-"""Compares what holidays become, and their domain, with the plain model: the worked rows in holidays/, and drawn tables, years and
-selectors. The program is holidays/main.rattle, built without its proofs.
+"""Compares what holidays become, and their domain, with the plain model: the worked rows in holidays/, and drawn tables, years
+and selectors. The program is holidays/main.rattle, built without its proofs.
 
 With an argument, that many are drawn."""
 import random

@@ -131,7 +131,8 @@ def only_planted(others, kept):
 
 
 def planted_table(text):
-    """The text of docs/PLANTED.md with the numbers of wrong bodies as they are, and the crates of the gate that it does not list."""
+    """The text of docs/PLANTED.md with the numbers of wrong bodies as they are, and the crates of the gate that
+    it does not list."""
     kept = collections.Counter(name.split("/")[1] for name in tracked("crates/*/must-fail/*.edit"))
     others = collections.Counter(name.split("/")[1] for name in tracked("planted/*/*.edit"))
     listed = re.findall(r"^\| `(\w+)` \| [\d,]+ \| [\d,]+ \|", text, re.M)

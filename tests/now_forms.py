@@ -55,7 +55,8 @@ TOLD = {}
 def told(domain):
     """The text and the words of a domain, as other commands print them."""
     if domain not in TOLD:
-        TOLD[domain] = ("", "always\n") if not domain else (run("gtd", "canon", domain).rstrip("\n"), run("gtdesk", "words", domain))
+        TOLD[domain] = ("", "always\n") if not domain else (
+            run("gtd", "canon", domain).rstrip("\n"), run("gtdesk", "words", domain))
     return TOLD[domain]
 
 

@@ -108,7 +108,8 @@ install_it() {
     for name in gtd gtdesk; do
         succeeds "$name is the proved one" cmp "$root/usr/bin/$name" "$top/crates/$name/out/$name"
     done
-    for file in README.md STATEMENT.txt docs/TUTORIAL.md docs/COMMANDS.md examples/restrictions.csv examples/planner/network.csv; do
+    for file in README.md STATEMENT.txt docs/TUTORIAL.md docs/COMMANDS.md examples/restrictions.csv \
+        examples/planner/network.csv; do
         succeeds "documents: $file" test -s "$root/usr/share/doc/gtd/$file"
     done
     gives 'the pictures that the documents show' '' missing_pictures
@@ -254,7 +255,8 @@ use_library() {
 use_extensions() {
     gives 'the extension of SQLite' '[(h7m30){h1m30}]' sqlite3 :memory: ".load $root/usr/lib/x86_64-linux-gnu/mod_gtd" \
         "SELECT gtd_canon('[(m30h07){m30h1}]')"
-    gives 'the extension of PostgreSQL' "default_version = '0.1'" grep version "$root/usr/share/postgresql/15/extension/gtd.control"
+    gives 'the extension of PostgreSQL' "default_version = '0.1'" \
+        grep version "$root/usr/share/postgresql/15/extension/gtd.control"
     succeeds 'its functions' cmp "$root/usr/share/postgresql/15/extension/gtd--0.1.sql" "$top/bindings/postgres/gtd--0.1.sql"
     gives 'its module needs the C library alone' '' \
         bash -c "objdump -p '$root/usr/lib/postgresql/15/lib/gtd.so' | grep NEEDED | grep -v 'libc\.so\.6'"

@@ -188,7 +188,8 @@ def check_domains(browser, address):
         settle_domain(browser)
         same(browser.run("document.getElementById('text').value"), text, f"{name}: the text in the field")
         if not browser.run("document.getElementById('answers').hidden"):
-            check_domain(browser, text, text if text[0] in "[(" else told(DESK, "hours", "--strict", "--", text).partition("\n")[0])
+            domain = text if text[0] in "[(" else told(DESK, "hours", "--strict", "--", text).partition("\n")[0]
+            check_domain(browser, text, domain)
     # The deepest that is read, on either side.
     right = "[(M5h1){h2}-" * 127 + "(M5h1){h1}" + "]" * 127
     left = "[" * 128 + "(h1){h1}]" + "-(h2){h1}]" * 127

@@ -38,7 +38,8 @@ WEEKDAYS = "Monday Tuesday Wednesday Thursday Friday Saturday Sunday".split()
 EXAMPLE_PICTURES = [
     ("town.csv", 103, "positive", 1, 2024), ("town.csv", 104, "positive", 11, 2023), ("town.csv", 104, "negative", 11, 2024),
     ("town.csv", 102, "negative", 3, 2100), ("town.csv", 105, "positive", 99, 2024),
-    ("restrictions.csv", 17, "positive", 12, 2000), ("works.csv", None, "positive", 1, 2024), ("pass.csv", None, "positive", 1, 2024),
+    ("restrictions.csv", 17, "positive", 12, 2000), ("works.csv", None, "positive", 1, 2024),
+    ("pass.csv", None, "positive", 1, 2024),
 ]
 EXAMPLE_DOMAINS = [
     ("[(M4d1){M3}]*[(h10){h4}]", 2024), ("(h23m59s59){s2}", 1901), ("(M2d29){d1}", 2199), ("[(h0){h24}]-[(t1){d1}]", 2023),

@@ -1,8 +1,8 @@
 #!/usr/bin/env bash
 # The Python package: its types, its tests, and its wheel in a fresh virtual environment. Run it after `rt ci`, which builds the
 # programs and the library's archive; bindings/build.sh links the library, if it is not there. LIBGTD, GTD and GTDESK name others.
-# It needs Debian's Python packages, and calls tests/setup.sh if one is missing. The tests mount a small disk: if this is not run as
-# root, they run as root of their own namespace.
+# It needs Debian's Python packages, and calls tests/setup.sh if one is missing. The tests mount a small disk: if this is not run
+# as root, they run as root of their own namespace.
 #
 # Three groups of tests run side by side, since they mostly wait for processes to start.
 set -u

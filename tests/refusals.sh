@@ -118,7 +118,9 @@ as_before_or_in_want() {
 program_refused() {
     local name="${program##*/} ${*:2}"
     has_parts=false
-    case $2 in schedule | year | migrate | now | diff | ask | records | conditions | picture | picture-domain) has_parts=true ;; esac
+    case $2 in
+        schedule | year | migrate | now | diff | ask | records | conditions | picture | picture-domain) has_parts=true ;;
+    esac
     run 0 0 "$program" "${@:2}"
     mv "$room/out" "$room/whole"
     whole_status=$status whole_told=$told
@@ -140,7 +142,8 @@ printf '%s\n' element,direction,vehicles,hours '1,both,0,Fr 22:00-04:00' '2,posi
 printf '%s\n' element,direction,vehicles,hours '1,both,0,Apr 10-31' 1,up,0, > faulty_hours.csv
 printf '%s\n' kind,name,means mode,access,0 'mode,hgv,11;12' mode,oneway,!90 'condition,weight>7.5,12' > means.csv
 printf '%s\n' kind,name,means mode,HGV,11 mode,hgv,x > faulty_means.csv
-printf '%s\n' element,key,value '1,access:conditional,no @ (Mo-Fr 07:00-09:00); yes @ (weight>7.5)' 1,hgv,no 2,oneway,yes > tags.csv
+printf '%s\n' element,key,value '1,access:conditional,no @ (Mo-Fr 07:00-09:00); yes @ (weight>7.5)' 1,hgv,no 2,oneway,yes \
+    > tags.csv
 printf '%s\n' element,key,value '1,access:conditional,no @ (07:00-09:00' x,hgv,no > faulty_tags.csv
 
 program=$gtd no_memory='fault NoMemory'

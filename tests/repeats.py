@@ -1,11 +1,12 @@
 #!/usr/bin/env python3
 """`gtdesk same --file` on random record files, against the plain model of tests/model.py.
 
-The domains of these files are some that repeat after a week or a year, each in several texts: `{h24}` for `{d1}`, `b+a` for `a+b`,
-a stretch cut in two; and some of years, that have no second from 2016 to 2043. The rows name few elements, so that many of them
-are the same, or within another. The model compares the seconds of eight years, and of the others that a text names. Of the lines that the program prints, each is that of the model, and none is missing. Then come files that
-were shuffled, whose rows were split, or rewritten: without the rows of which a line is printed, `gtdesk diff` says that nothing
-has changed. Run it after `rt ci`, which builds the program.
+The domains of these files are some that repeat after a week or a year, each in several texts: `{h24}` for `{d1}`, `b+a` for
+`a+b`, a stretch cut in two; and some of years, that have no second from 2016 to 2043. The rows name few elements, so that many of
+them are the same, or within another. The model compares the seconds of eight years, and of the others that a text names. Of the
+lines that the program prints, each is that of the model, and none is missing. Then come files that were shuffled, whose rows were
+split, or rewritten: without the rows of which a line is printed, `gtdesk diff` says that nothing has changed. Run it after
+`rt ci`, which builds the program.
 
 Usage: tests/repeats.py [COUNT [SEED]]
 """

@@ -6,7 +6,8 @@ lines of the definitions, without comments and blank lines, and those of the typ
 claims of the other runs what each asks beyond the headline. STATEMENT.txt is the whole statement.
 
 Fails if a sum is over its limit; if docs/PROOF.md or README.md tells other numbers; if STATEMENT.txt is something else, or more
-than its pages; if a name is not found; if a definition is among the lemmas, in specs/facts/; or if a file of specs/ cites a lemma.
+than its pages; if a name is not found; if a definition is among the lemmas, in specs/facts/; or if a file of specs/
+cites a lemma.
 
 Usage: tests/statement.py [--print | --list | --write]
   --print   prints the statement, as STATEMENT.txt must have it

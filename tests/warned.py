@@ -3,8 +3,9 @@
 
 Each rule's row of the tables is told and the two close ones are not, with the words that the tables give. Then come random record
 files, whose warnings the model finds in the expressions of tests/model.py, by the conditions as the page says them, and in the
-seconds of 35 years: after 2025, the last year that a domain gives, the calendar of 28 years comes again and again until 2100. With `--allow` rules are turned off, and with `--at` some rows are over. Of the domains of
-docs/GALLERY.md and the files of examples/ none is warned of. Run it after `rt ci`, which builds the program.
+seconds of 35 years: after 2025, the last year that a domain gives, the calendar of 28 years comes again and again until 2100.
+With `--allow` rules are turned off, and with `--at` some rows are over. Of the domains of docs/GALLERY.md and the files of
+examples/ none is warned of. Run it after `rt ci`, which builds the program.
 
 Usage: tests/warned.py [COUNT [SEED]]
 """
@@ -287,10 +288,10 @@ def expected(path, rows, off, dated):
 # ---- random files
 
 STARTS = ["M5", "M5h10", "M6h22", "y2025h7", "y2024", "y2023M1d1", "y2025M7d30", "y2025M6d30", "m30", "t1", "t2t6", "t1t2t3t4t5",
-          "t2", "t7", "M4d1", "h7", "h16", "h22", "h6m30", "h23m59s30", "d1t2", "d13t6", "d31", "M2d30", "M2d29", "h0", "M7", "f12",
-          "l16", "w23", "y2025M7d31", "t1M5", "d5t3h8", "M4d31", "y2024t6"]
-DURATIONS = ["d1", "h2", "h9", "d5", "d2", "m6", "m15", "h18", "h8", "h6", "M1", "M2", "d365", "d366", "y1", "h24", "s0", "m90", "w1",
-             "h9m59", "m0s1", "d0h9", "h1m30s15", "M6"]
+          "t2", "t7", "M4d1", "h7", "h16", "h22", "h6m30", "h23m59s30", "d1t2", "d13t6", "d31", "M2d30", "M2d29", "h0", "M7",
+          "f12", "l16", "w23", "y2025M7d31", "t1M5", "d5t3h8", "M4d31", "y2024t6"]
+DURATIONS = ["d1", "h2", "h9", "d5", "d2", "m6", "m15", "h18", "h8", "h6", "M1", "M2", "d365", "d366", "y1", "h24", "s0", "m90",
+             "w1", "h9m59", "m0s1", "d0h9", "h1m30s15", "M6"]
 
 
 def random_basic(rng):

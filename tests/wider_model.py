@@ -1,6 +1,6 @@
 #!/usr/bin/env python3
-"""A plain model of all that is read of opening hours, written from docs/HOURS.md alone, over the models of plain hours, of holidays
-and of moments: comments, unknown rules and fallback rules come to these. Which fault a text has with a table, years and
+"""A plain model of all that is read of opening hours, written from docs/HOURS.md alone, over the models of plain hours, of
+holidays and of moments: comments, unknown rules and fallback rules come to these. Which fault a text has with a table, years and
 options, which warnings, and in which state a second is."""
 import re
 from typing import NamedTuple
@@ -45,7 +45,8 @@ def with_remarks(found):
 
 
 def tokens(text):
-    """The tokens of a text, or the fault of the first byte with which none begins, or of a comment before it that is not whole."""
+    """The tokens of a text, or the fault of the first byte with which none begins, or of a comment before it that is
+    not whole."""
     try:
         found = moments_model.tokens(text)
     except Fault as fault:
@@ -55,8 +56,8 @@ def tokens(text):
 
 
 class Reader(known_model.Reader, moments_model.Reader):
-    """The reader of hours with holidays and moments, with the wider rules. It keeps where those begin that say days alone, and behind
-    which a comma begins another rule."""
+    """The reader of hours with holidays and moments, with the wider rules. It keeps where those begin that say days alone, and
+    behind which a comma begins another rule."""
 
     def __init__(self, *given):
         super().__init__(*given)
@@ -80,7 +81,8 @@ class Reader(known_model.Reader, moments_model.Reader):
         begin = self.at
         rule = self.any_rule(link, at)
         words = {token.kind for token in self.found[begin:self.at]}
-        if rule.kinds and self.peek() == "," and not words & {"modifier", "unknown", "comment", "time"} and rule.times == [(0, DAY)]:
+        says_days_alone = rule.kinds and not words & {"modifier", "unknown", "comment", "time"} and rule.times == [(0, DAY)]
+        if says_days_alone and self.peek() == ",":
             self.whole_days.append(self.found[begin].place)
         return rule
 
@@ -112,7 +114,8 @@ def plain(text):
         rules = hours_model.read(text)
     except Fault:
         return None
-    return [Rule("," if rule.adds else ";", 0, "open" if rule.opens else "closed", rule.kinds, rule.times, None) for rule in rules]
+    return [Rule("," if rule.adds else ";", 0, "open" if rule.opens else "closed", rule.kinds, rule.times, None)
+            for rule in rules]
 
 
 def moments_in(rule):
@@ -176,8 +179,8 @@ def whole_days(text):
 
 
 def warnings(text, rules, years):
-    """The warnings of a text that has these rules: of its remarks, of its unknown rules, of its rules that say days alone, and of its
-    holidays."""
+    """The warnings of a text that has these rules: of its remarks, of its unknown rules, of its rules that say days alone, and of
+    its holidays."""
     told = []
     for rule in rules:
         if rule.place is not None and rule.says == "open":

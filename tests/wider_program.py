@@ -2,8 +2,8 @@
 """The built program `gtdesk hours` with all its options beside the plain models of hours and of domains.
 
 For each row of moving.csv, easter.csv, years.csv, remarks.csv and moments.csv in tests/hours, the domain that is printed contains
-the same minutes of four years as the hours by tests/wider_model.py, and as the domain beside them, and its warnings are told; or its
-fault is. Then, for SECONDS, drawn texts, tables, years and options: rules with holidays, moments and comments, unknown rules
+the same minutes of four years as the hours by tests/wider_model.py, and as the domain beside them, and its warnings are told; or
+its fault is. Then, for SECONDS, drawn texts, tables, years and options: rules with holidays, moments and comments, unknown rules
 and fallback rules. The domains are compared at the first and the last minutes of stretches and at random seconds, and the
 faults of texts that are damaged or for which not all is given. The text that `gtdesk mend hours` prints means the same, and
 mended again it is the same. Run it after `rt ci`, which builds the programs; GTDESK in the environment names another one.
@@ -118,8 +118,8 @@ def damaged(text, chance):
 
 
 def is_same(found, fault, text):
-    """Whether the program has the fault of the model, or none. Where a comment that does not end stands in a range of times, it is
-    told behind another fault."""
+    """Whether the program has the fault of the model, or none. Where a comment that does not end stands in a range of times, it
+    is told behind another fault."""
     if fault is None:
         return found[0] is not None or found[1] == "TooMany at 0"
     in_times = fault.startswith("BadToken at ") and text[int(fault[12:]):][:1] == '"'

@@ -225,8 +225,9 @@ class French(English):
 
     def back(self, role, place, weekday):
         vowel = place in (2, 3)
-        article = {"on": "l'" if vowel else "le ", "from": "de l'" if vowel else "du ", "if": "(si c'est aussi " + ("l'" if vowel else "le ")}
-        words = f"{article[role]}{self.BACK[place - 1]} {self.WEEKDAYS[weekday - 1]}" + (" en partant de la fin" if place > 3 else "")
+        the, of_the = ("l'", "de l'") if vowel else ("le ", "du ")
+        article = {"on": the, "from": of_the, "if": "(si c'est aussi " + the}[role]
+        words = f"{article}{self.BACK[place - 1]} {self.WEEKDAYS[weekday - 1]}" + (" en partant de la fin" if place > 3 else "")
         return words + (" du mois)" if role == "if" else "")
 
     def weekdays(self, role, numbers):
@@ -377,7 +378,8 @@ def days_and_clock(seconds):
 
 
 def dates_of(start, fields):
-    """From which date to which, of all years: the begin, the end, and the years between, or nothing for a date that no year has."""
+    """From which date to which, of all years: the begin, the end, and the years between, or nothing for a date that
+    no year has."""
     month, day = start.date()
     for year in YEARS:
         if day <= calendar.monthrange(year, month)[1]:

@@ -3,7 +3,8 @@
 to 2026 differ, how many differ, and the first of them. With STEP, only each STEP-th minute is looked at, by itself.
 
 These are the plain hours of texts.csv, by tests/hours_model.py; and of moving.csv, easter.csv, years.csv and remarks.csv those
-texts that need no table and no option but the years 2023 to 2026, by tests/wider_model.py, of which each 30th minute is looked at.
+texts that need no table and no option but the years 2023 to 2026, by tests/wider_model.py, of which each 30th minute is
+looked at.
 
 Usage: bench/kopeninghours/compare.py DRIVER [STEP]    (bench/kopeninghours.sh builds the driver)
 """

@@ -58,7 +58,9 @@ def _parser() -> argparse.ArgumentParser:
     parser.add_argument("--to", required=True, dest="until", metavar="DAY", help="the day after the last")
     parser.add_argument("--vehicle", required=True, type=_types, metavar="TYPE", help="1 to 99, or many: 1,11,12")
     parser.add_argument("--out", required=True, metavar="DIR", help="a new folder for part-00000.csv...")
-    parser.add_argument("--diff", action="append", metavar="OLD.csv", help="what is said differently from these files; may repeat")
+    parser.add_argument(
+        "--diff", action="append", metavar="OLD.csv", help="what is said differently from these files; may repeat"
+    )
     parser.add_argument("--join", action="store_true", help="one file for each type, in place of parts")
     parser.add_argument("--workers", type=_at_least_one, metavar="N", help="of the cluster started here; else one for each core")
     parser.add_argument("--scheduler", metavar="ADDRESS", help="of a Dask cluster: tcp://HOST:8786 or tls://HOST:8786")
