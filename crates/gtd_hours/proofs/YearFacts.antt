@@ -70,8 +70,11 @@ last_year-twin false y z j t = t.0
 order-twin : (over : Bool) (first last : End) (y z : ℤ) (j : ℕ) → AreTwinPairs y z j
     → IsInOrder over first last y ↔ IsInOrder over first last z
 order-twin over first last y z j t =
-    rw (end-twin first y z j t.0, end-twin last (last_year over y) (last_year over z) j (last_year-twin over y z j t),
-    end-twin first (y +ℤ pos 1) (z +ℤ pos 1) j t.1)
+    rw (
+      end-twin first y z j t.0,
+      end-twin last (last_year over y) (last_year over z) j (last_year-twin over y z j t),
+      end-twin first (y +ℤ pos 1) (z +ℤ pos 1) j t.1,
+    )
     (moved (end_day first z) (end_day last (last_year over z)) (end_day first (z +ℤ pos 1)))
   where
     moved : (a b c : ℤ) → (((a +ℤ pos (7 * j)) ≤ℤ (b +ℤ pos (7 * j))) × ((b +ℤ pos (7 * j)) <ℤ (c +ℤ pos (7 * j))))

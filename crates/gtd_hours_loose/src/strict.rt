@@ -161,12 +161,7 @@ fn push_form(out: &mut Vec<u8>, kind: LooseKind, written: &[u8]) -> Result<(), A
 }
 
 // Ends a part whose strict form begins at a place of the strict text.
-fn end_part(
-    strict: &mut StrictForm,
-    from: usize,
-    to: usize,
-    start: usize,
-) -> Result<(), AllocError>
+fn end_part(strict: &mut StrictForm, from: usize, to: usize, start: usize) -> Result<(), AllocError>
     ensures text { OnOk result (strict.new.text.items ≡ strict.old.text.items ++ 32 ∷ []) }
     ensures parts { OnOk result (strict.new.parts.items ≡ strict.old.parts.items
         ++ record { from = from; to = to; start = start; end = length strict.old.text.items } ∷ []) }

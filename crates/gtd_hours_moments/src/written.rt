@@ -14,11 +14,7 @@ fn push_time(out: &mut Vec<u8>, time: &[u8], end: &[u8]) -> Result<(), AllocErro
 }
 
 /// Appends what stands for a token with these bytes.
-pub fn push_written(
-    out: &mut Vec<u8>,
-    written: Written,
-    bytes: &[u8],
-) -> Result<(), AllocError>
+pub fn push_written(out: &mut Vec<u8>, written: Written, bytes: &[u8]) -> Result<(), AllocError>
     ensures { OnOk result (out.new.items ≡ out.old.items ++ form_of written bytes.now) }
 {
     match written {
