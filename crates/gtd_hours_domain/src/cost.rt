@@ -9,14 +9,14 @@ ghost use Rattle.gtd_hours.specs.Cost.{selectors_cost};
 ghost use Rattle.gtd_hours.specs.Cost.{spans_cost};
 ghost use Rattle.gtd_hours.specs.Cost.{steps_cost, weeks_cost, years_cost};
 
-use crate::dates::{is_one_stretch, month_after};
-use crate::places::{days_on, end_days, months_between};
 use crate::spans::is_early;
-use crate::yearly::goes_on;
 use gtd_hours::{
     Dates, Hours, Kind, Link, Modifier, MovedPlace, Moving, Rule, Selector, TimeRange, Weeks, Years,
 };
 use gtd_hours_leaves::MOST_YEARS;
+use gtd_hours_selectors::{
+    days_on, end_days, goes_on, is_one_stretch, month_after, months_between,
+};
 
 fn add(a: u32, b: u32) -> u32
     ensures { result ≡ counted (a + b) }

@@ -8,12 +8,6 @@ pub use cost::cost_of;
 pub use translate::{TranslationFault, domain_of};
 
 mod cost;
-mod dated;
-mod dates;
-mod days;
-mod moving;
-mod places;
 mod said;
 mod spans;
 mod translate;
-mod yearly;

@@ -8,11 +8,11 @@ ghost use Rattle.gtd_hours.specs.Opening.{InSpans, IsClosedBy, IsOnMatch, IsOpen
 ghost use Rattle.gtd_hours_leaves.specs.Leaves.{InMaybe, IsSet, maybe_leaves};
 
 use crate::cost::ends_late;
-use crate::days::matching_days;
 use crate::spans::rule_spans;
 use gtd_core::{Expr, Op};
 use gtd_hours::{Link, Modifier, Rule};
 use gtd_hours_leaves::{clock_at, copied, join, unite};
+use gtd_hours_selectors::matching_days;
 use std::alloc::{AllocError, Global};
 
 /// What is said of seconds: that they are open, or that they are closed. Of others nothing is said.

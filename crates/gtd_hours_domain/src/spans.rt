@@ -9,10 +9,10 @@ ghost use Rattle.gtd_hours.specs.Ranges.{end_of};
 ghost use Rattle.gtd_hours_domain.specs.Translation.{SomeEarly, SomeLate};
 ghost use Rattle.gtd_hours_leaves.specs.Leaves.{InMaybe, IsSet, maybe_leaves};
 
-use crate::days::matching_days;
 use gtd_core::{Expr, Op};
 use gtd_hours::{Kind, TimeRange};
 use gtd_hours_leaves::{clock_at, each_clock, join, or_nothing, unite};
+use gtd_hours_selectors::matching_days;
 use std::alloc::{AllocError, Global};
 
 // How many minutes a range of times lasts.
