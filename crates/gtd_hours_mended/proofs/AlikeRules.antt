@@ -12,7 +12,7 @@ use Rattle.gtd_hours_grammar.specs.facts.FirstFault.{hours_or_fault}
 use Rattle.gtd_hours_holiday_rules.specs.Rules.{Said, said_by}
 use Rattle.gtd_hours_holiday_rules.specs.declared.rules.HolidayRule.{HolidayRule}
 use Rattle.gtd_hours_known.specs.Rules.{IsRuleFault}
-use Rattle.gtd_hours_moments.specs.declared.moment.TimeForm.{TimeForm}
+use Rattle.gtd_hours_times.specs.declared.moment.TimeForm.{TimeForm}
 use Rattle.gtd_hours_text.specs.Standing.{StandsFor}
 use Rattle.gtd_hours_text.specs.facts.OneMeaning.{same_rules}
 use Rattle.gtd_hours_text.specs.facts.SameRules.{SameRules}

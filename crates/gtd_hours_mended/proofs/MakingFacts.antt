@@ -4,7 +4,7 @@ use Rattle.std.proofs.lemmas.List.{append-nil}
 use Rattle.gtd_hours_grammar.specs.declared.fault.HoursFault.{HoursFault}
 use Rattle.gtd_hours_holiday_rules.specs.declared.rules.HolidayRule.{HolidayRule}
 use Rattle.gtd_hours_known.specs.Rules.{IsRuleFault}
-use Rattle.gtd_hours_moments.specs.declared.moment.TimeForm.{TimeForm}
+use Rattle.gtd_hours_times.specs.declared.moment.TimeForm.{TimeForm}
 use Rattle.gtd_hours_mended.specs.Making.{AreMade, IsMade, IsMakeStop, IsOwnStop, comment_in, first_comment, times_in}
 use Rattle.gtd_hours_mended.specs.declared.comments.Stretch.{Stretch}
 use Rattle.gtd_hours_mended.specs.declared.making.MakeStop.{MakeStop}

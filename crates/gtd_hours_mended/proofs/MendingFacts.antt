@@ -6,10 +6,11 @@ use Rattle.gtd_hours_tokens.specs.declared.token.Token.{Token}
 use Rattle.gtd_hours_items.specs.Comments.{IsNoHolidayText}
 use Rattle.gtd_hours_items.specs.declared.stop.NoHolidayText.{NoHolidayText}
 use Rattle.gtd_hours_items.specs.declared.stop.NoHolidayText.TheVariants as items
-use Rattle.gtd_hours_moments.specs.Reading.{IsMomentText, IsNoMomentText}
-use Rattle.gtd_hours_moments.specs.declared.moment.TimeForm.{TimeForm}
-use Rattle.gtd_hours_moments.specs.declared.stop.NoMomentText.{NoMomentText}
-use Rattle.gtd_hours_moments.specs.declared.stop.NoMomentText.TheVariants as moments
+use Rattle.gtd_hours_times.specs.Tokens.{IsNoMomentText}
+use Rattle.gtd_hours_times.specs.declared.moment.TimeForm.{TimeForm}
+use Rattle.gtd_hours_times.specs.declared.stop.NoMomentText.{NoMomentText}
+use Rattle.gtd_hours_times.specs.declared.stop.NoMomentText.TheVariants as moments
+use Rattle.gtd_hours_moments.specs.Reading.{IsMomentText}
 use Rattle.gtd_hours_moments.specs.declared.text.MomentText.{MomentText}
 use Rattle.gtd_hours_loose.specs.Reading.{IsReadFault}
 use Rattle.gtd_hours_loose.specs.StrictForms.{IsLooseStop, IsStrictForm}

@@ -10,10 +10,10 @@ use Rattle.gtd_hours_items.specs.Comments.{IsBadPlace}
 use Rattle.gtd_hours_items.specs.declared.items.Item.{Item}
 use Rattle.gtd_hours_holiday_rules.specs.Parts.{parts_of}
 use Rattle.gtd_hours_holiday_rules.specs.declared.parts.Part.{Part}
+use Rattle.gtd_hours_times.specs.Tokens.{AreTimeTokens, IsTimeFault}
+use Rattle.gtd_hours_times.specs.declared.times.TimeToken.{TimeToken}
 use Rattle.gtd_hours_moments.specs.Reading.{IsMomentText}
-use Rattle.gtd_hours_moments.specs.Tokens.{AreTimeTokens, IsTimeFault}
 use Rattle.gtd_hours_moments.specs.declared.text.MomentText.{MomentText}
-use Rattle.gtd_hours_moments.specs.declared.times.TimeToken.{TimeToken}
 use Rattle.gtd_hours_known.specs.Manners.{token_fault}
 use Rattle.gtd_hours_known.specs.declared.fault.KnownFault.TheVariants as fault
 use Rattle.gtd_hours_loose.specs.StrictForms.{IsStrictForm}

@@ -16,13 +16,13 @@ use Rattle.gtd_hours_items.specs.declared.items.Item.{Item}
 use Rattle.gtd_hours_holiday_rules.specs.Parts.{parts_of}
 use Rattle.gtd_hours_holiday_rules.specs.declared.parts.Part.{Part}
 use Rattle.gtd_hours_holiday_rules.proofs.OneText.{one_items}
+use Rattle.gtd_hours_times.specs.Tokens.{AreTimeTokens, IsTimeFault}
+use Rattle.gtd_hours_times.specs.declared.moment.TimeForm.{TimeForm}
+use Rattle.gtd_hours_times.specs.declared.times.TimeToken.{TimeToken}
 use Rattle.gtd_hours_moments.specs.Options.{given_or}
 use Rattle.gtd_hours_moments.specs.Reading.{IsMomentText}
-use Rattle.gtd_hours_moments.specs.Tokens.{AreTimeTokens, IsTimeFault}
 use Rattle.gtd_hours_moments.specs.declared.clocks.Clocks.{Clocks}
-use Rattle.gtd_hours_moments.specs.declared.moment.TimeForm.{TimeForm}
 use Rattle.gtd_hours_moments.specs.declared.text.MomentText.{MomentText}
-use Rattle.gtd_hours_moments.specs.declared.times.TimeToken.{TimeToken}
 use Rattle.gtd_hours_known.specs.Marks.{HasMarks}
 use Rattle.gtd_hours_known.specs.Reading.{KnownStandsFor}
 use Rattle.gtd_hours_known.specs.declared.known.Known.{Known}

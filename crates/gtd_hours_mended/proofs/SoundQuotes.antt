@@ -14,21 +14,21 @@ use Rattle.gtd_hours_items.specs.Items.{begins_quoted}
 use Rattle.gtd_hours_items.proofs.TokenLemmas.{left_true, right_true}
 use Rattle.gtd_hours_holiday_rules.specs.Reading.{IsHolidayText}
 use Rattle.gtd_hours_holiday_rules.specs.declared.text.HolidayText.{HolidayText}
+use Rattle.gtd_hours_times.specs.Steps.{step_of}
+use Rattle.gtd_hours_times.specs.Tokens.{AreTimeTokens, IsTimeToken, time_token}
+use Rattle.gtd_hours_times.specs.Tokens as times
+use Rattle.gtd_hours_times.specs.declared.behind.Behind.{Behind}
+use Rattle.gtd_hours_times.specs.declared.behind.Behind.TheVariants as behind
+use Rattle.gtd_hours_times.specs.declared.behind.Written.{Written}
+use Rattle.gtd_hours_times.specs.declared.behind.Written.TheVariants as written
+use Rattle.gtd_hours_times.specs.declared.moment.TimeForm.{TimeForm}
+use Rattle.gtd_hours_times.specs.declared.times.TimeToken.{TimeToken}
 use Rattle.gtd_hours_moments.specs.Checked.{checked_puts, form_of}
 use Rattle.gtd_hours_moments.specs.Parts.{parts_from, parts_of}
 use Rattle.gtd_hours_moments.specs.Places.{text_of}
 use Rattle.gtd_hours_moments.specs.Reading.{IsMomentText}
-use Rattle.gtd_hours_moments.specs.Steps.{step_of}
-use Rattle.gtd_hours_moments.specs.Tokens.{AreTimeTokens, IsTimeToken, time_token}
-use Rattle.gtd_hours_moments.specs.Tokens as times
-use Rattle.gtd_hours_moments.specs.declared.behind.Behind.{Behind}
-use Rattle.gtd_hours_moments.specs.declared.behind.Behind.TheVariants as behind
-use Rattle.gtd_hours_moments.specs.declared.behind.Written.{Written}
-use Rattle.gtd_hours_moments.specs.declared.behind.Written.TheVariants as written
 use Rattle.gtd_hours_moments.specs.declared.clocks.Clocks.{Clocks}
-use Rattle.gtd_hours_moments.specs.declared.moment.TimeForm.{TimeForm}
 use Rattle.gtd_hours_moments.specs.declared.text.MomentText.{MomentText}
-use Rattle.gtd_hours_moments.specs.declared.times.TimeToken.{TimeToken}
 use Rattle.gtd_hours_moments.specs.declared.told.Told.{Told}
 use Rattle.gtd_hours_known.specs.Faults.{bad_token}
 use Rattle.gtd_hours_known.specs.Reading.{IsKnownFault, IsOtherFault, KnownStandsFor}

@@ -7,7 +7,7 @@ use Rattle.gtd_hours_text.specs.Standing.{StandsFor}
 use Rattle.gtd_hours_moving.specs.Words.{stretch}
 use Rattle.gtd_hours_holiday_rules.specs.declared.rules.HolidayRule.{HolidayRule}
 use Rattle.gtd_hours_known.specs.Rules.{IsRuleFault}
-use Rattle.gtd_hours_moments.specs.declared.moment.TimeForm.{TimeForm}
+use Rattle.gtd_hours_times.specs.declared.moment.TimeForm.{TimeForm}
 use Rattle.gtd_hours_mended.specs.Comments.{no_comment}
 use Rattle.gtd_hours_mended.specs.Rules.{first_times}
 use Rattle.gtd_hours_mended.specs.declared.comments.Stretch.{Stretch}

@@ -9,7 +9,7 @@ use Rattle.gtd_hours.specs.declared.hours.Selector.{Selector}
 use Rattle.gtd_hours.specs.declared.hours.TimeRange.{TimeRange}
 use Rattle.gtd_hours_days.specs.declared.listed.EasterDays.{EasterDays}
 use Rattle.gtd_hours_days.specs.declared.listed.Listed.{Listed}
-use Rattle.gtd_hours_moments.specs.declared.moment.TimeForm.{TimeForm}
+use Rattle.gtd_hours_times.specs.declared.moment.TimeForm.{TimeForm}
 use Rattle.gtd_hours_mended.specs.Days.{with_days, with_holidays, with_month_days}
 use Rattle.gtd_hours_mended.specs.Joining.{is_nothing, spaced}
 use Rattle.gtd_hours_mended.specs.Selecting.{selectors_of}

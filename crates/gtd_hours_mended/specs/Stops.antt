@@ -1,8 +1,8 @@
 -- Why a text is not mended, as the code tells it.
 use Rattle.gtd_hours_items.specs.declared.stop.NoHolidayText.{NoHolidayText}
 use Rattle.gtd_hours_items.specs.declared.stop.NoHolidayText.TheVariants as items
-use Rattle.gtd_hours_moments.specs.declared.stop.NoMomentText.{NoMomentText}
-use Rattle.gtd_hours_moments.specs.declared.stop.NoMomentText.TheVariants as moments
+use Rattle.gtd_hours_times.specs.declared.stop.NoMomentText.{NoMomentText}
+use Rattle.gtd_hours_times.specs.declared.stop.NoMomentText.TheVariants as moments
 use Rattle.gtd_hours_known.specs.declared.fault.KnownFault.TheVariants as fault
 use Rattle.gtd_hours_options.specs.Told.{bad_token}
 use Rattle.gtd_hours_options.specs.declared.fault.OptionsFault.TheVariants as wrong

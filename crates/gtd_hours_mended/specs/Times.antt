@@ -2,11 +2,11 @@
 use Rattle.std.specs.Prelude.{ℕ, ◌==◌, ◌++◌, Bool, List, [], ◌∷◌, Option, Some, None, ℤ}
 use Rattle.std.specs.Prelude.{codes, decimal, if◌then◌else◌, unsigned_abs}
 use Rattle.std.specs.Int.{is_negative}
+use Rattle.gtd_hours_times.specs.declared.moment.Event.{Event}
+use Rattle.gtd_hours_times.specs.declared.moment.Event.TheVariants as event
+use Rattle.gtd_hours_times.specs.declared.moment.Moment.{Moment}
+use Rattle.gtd_hours_times.specs.declared.moment.TimeForm.{TimeForm}
 use Rattle.gtd_hours_moments.specs.Plain.{clock}
-use Rattle.gtd_hours_moments.specs.declared.moment.Event.{Event}
-use Rattle.gtd_hours_moments.specs.declared.moment.Event.TheVariants as event
-use Rattle.gtd_hours_moments.specs.declared.moment.Moment.{Moment}
-use Rattle.gtd_hours_moments.specs.declared.moment.TimeForm.{TimeForm}
 use Rattle.gtd_hours_mended.specs.Joining.{listed}
 
 abbrev pub event_word : Event → List ℕ

@@ -5,10 +5,10 @@ use Rattle.std.specs.Prelude.{if◌then◌else◌}
 use Rattle.std.specs.Option.{option_or}
 use Rattle.std.proofs.Math.Nat.{min-le_right, min-eq_left, min-eq_right}
 use Rattle.std.proofs.lemmas.Bool.{cases_lt, le-ltb, lt-ltb}
+use Rattle.gtd_hours_times.specs.declared.moment.Event.{Event}
+use Rattle.gtd_hours_times.specs.declared.moment.Moment.{Moment}
+use Rattle.gtd_hours_times.specs.declared.moment.TimeForm.{TimeForm}
 use Rattle.gtd_hours_moments.specs.declared.clocks.Clocks.{Clocks}
-use Rattle.gtd_hours_moments.specs.declared.moment.Event.{Event}
-use Rattle.gtd_hours_moments.specs.declared.moment.Moment.{Moment}
-use Rattle.gtd_hours_moments.specs.declared.moment.TimeForm.{TimeForm}
 use Rattle.gtd_hours_moments.specs.declared.needs.Need.{Need}
 use Rattle.gtd_hours_moments.specs.declared.needs.NeedKind.{NeedKind}
 use Rattle.gtd_hours_moments.specs.declared.needs.NeedKind.TheVariants as kind

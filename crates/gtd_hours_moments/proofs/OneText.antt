@@ -1,15 +1,15 @@
 -- A text is one list of tokens, of which all else is computed.
 use Rattle.std.proofs.Common.{◌≡◌, ◌∙◌, ℕ, List, sym, ap}
+use Rattle.gtd_hours_times.specs.declared.times.TimeToken.{TimeToken}
+use Rattle.gtd_hours_times.specs.Tokens.{AreTimeTokens}
 use Rattle.gtd_hours_moments.specs.declared.clocks.Clocks.{Clocks}
 use Rattle.gtd_hours_moments.specs.declared.placed.PlacedText.{PlacedText}
 use Rattle.gtd_hours_moments.specs.declared.text.MomentText.{MomentText}
-use Rattle.gtd_hours_moments.specs.declared.times.TimeToken.{TimeToken}
 use Rattle.gtd_hours_moments.specs.Checked.{checked_puts}
 use Rattle.gtd_hours_moments.specs.Parts.{breaks_off, forms_of, parts_of, told_of}
 use Rattle.gtd_hours_moments.specs.Places.{places_from, text_of}
 use Rattle.gtd_hours_moments.specs.Plain.{plain_puts}
 use Rattle.gtd_hours_moments.specs.Reading.{IsMomentText, IsPlainText}
-use Rattle.gtd_hours_moments.specs.Tokens.{AreTimeTokens}
 
 module _ (one_list : (text : List ℕ) (one other : List TimeToken) → AreTimeTokens text one → AreTimeTokens text other
     → one ≡ other) where

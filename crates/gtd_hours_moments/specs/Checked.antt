@@ -1,10 +1,10 @@
 -- The checked text: plain hours, whose first fault is the text's. A moment stands there as a time, and a form as a range.
 use Rattle.std.specs.Prelude.{ℕ, List, [], ◌∷◌, ◌++◌, codes}
-use Rattle.gtd_hours_moments.specs.declared.behind.Written.{Written}
-use Rattle.gtd_hours_moments.specs.declared.behind.Written.TheVariants as written
+use Rattle.gtd_hours_times.specs.declared.behind.Written.{Written}
+use Rattle.gtd_hours_times.specs.declared.behind.Written.TheVariants as written
+use Rattle.gtd_hours_times.specs.Tokens.{stretch}
 use Rattle.gtd_hours_moments.specs.declared.parts.Part.{Part}
 use Rattle.gtd_hours_moments.specs.Places.{Put}
-use Rattle.gtd_hours_moments.specs.Tokens.{stretch}
 
 -- What stands for a token with these bytes. `PH` is nowhere in plain hours.
 abbrev pub form_of : Written → List ℕ → List ℕ

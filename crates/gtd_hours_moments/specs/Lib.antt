@@ -1,5 +1,4 @@
 pub mod Checked
-pub mod Forms
 pub mod Meaning
 pub mod Minutes
 pub mod Needs
@@ -9,6 +8,5 @@ pub mod Places
 pub mod Plain
 pub mod Ranges
 pub mod Reading
-pub mod Steps
 pub mod Told
-pub mod Tokens
+pub use Rattle.gtd_hours_times.specs.Tokens

@@ -2,11 +2,11 @@
 use Rattle.std.specs.Prelude.{ℕ, ◌≡◌, ◌+◌, ◌*◌, ◌/◌, ◌%◌, ◌<◌, ◌≤◌, ◌⊎◌, false, List, [], ◌∷◌, ◌++◌, Option, Some, None}
 use Rattle.gtd_hours.specs.Written.{two_digits}
 use Rattle.gtd_hours_parts.specs.declared.clock.ClockTime.{ClockTime}
+use Rattle.gtd_hours_times.specs.declared.moment.Moment.{Moment}
+use Rattle.gtd_hours_times.specs.declared.moment.TimeForm.{TimeForm}
 use Rattle.gtd_hours_moments.specs.Minutes.{minute_at}
 use Rattle.gtd_hours_moments.specs.Ranges.{ranges}
 use Rattle.gtd_hours_moments.specs.declared.clocks.Clocks.{Clocks}
-use Rattle.gtd_hours_moments.specs.declared.moment.Moment.{Moment}
-use Rattle.gtd_hours_moments.specs.declared.moment.TimeForm.{TimeForm}
 use Rattle.gtd_hours_moments.specs.declared.ranges.MinuteRange.{MinuteRange}
 
 -- It is one of these.

@@ -1,9 +1,9 @@
 -- Minutes of the day, with what is given for events.
 use Rattle.std.specs.Prelude.{ℕ, ◌+◌, ◌-◌, nat_lt, Option, Some, None, ℤ, pos, negsuc, ◌+ℤ◌, if◌then◌else◌}
+use Rattle.gtd_hours_times.specs.declared.moment.Event.{Event}
+use Rattle.gtd_hours_times.specs.declared.moment.Event.TheVariants as event
+use Rattle.gtd_hours_times.specs.declared.moment.Moment.{Moment}
 use Rattle.gtd_hours_moments.specs.declared.clocks.Clocks.{Clocks}
-use Rattle.gtd_hours_moments.specs.declared.moment.Event.{Event}
-use Rattle.gtd_hours_moments.specs.declared.moment.Event.TheVariants as event
-use Rattle.gtd_hours_moments.specs.declared.moment.Moment.{Moment}
 use Rattle.gtd_hours_moments.specs.Options.{given_or}
 
 abbrev pub event_minutes : Clocks → Event → Option ℕ

@@ -2,10 +2,10 @@
 use Rattle.std.specs.Prelude.{ℕ, ◌&&◌, not, nat_le, nat_lt, Bool, false, List, [], ◌∷◌, is_some, is_none}
 use Rattle.std.specs.Prelude.{Option, Some, None, if◌then◌else◌}
 use Rattle.std.specs.Option.{option_or}
+use Rattle.gtd_hours_times.specs.declared.moment.Event.{Event}
+use Rattle.gtd_hours_times.specs.declared.moment.Moment.{Moment}
+use Rattle.gtd_hours_times.specs.declared.moment.TimeForm.{TimeForm}
 use Rattle.gtd_hours_moments.specs.declared.clocks.Clocks.{Clocks}
-use Rattle.gtd_hours_moments.specs.declared.moment.Event.{Event}
-use Rattle.gtd_hours_moments.specs.declared.moment.Moment.{Moment}
-use Rattle.gtd_hours_moments.specs.declared.moment.TimeForm.{TimeForm}
 use Rattle.gtd_hours_moments.specs.declared.needs.Need.{Need}
 use Rattle.gtd_hours_moments.specs.declared.needs.NeedKind.{NeedKind}
 use Rattle.gtd_hours_moments.specs.declared.needs.NeedKind.TheVariants as kind

@@ -1,15 +1,15 @@
 -- The tokens of a text from left to right, with what becomes of each.
 use Rattle.std.specs.Prelude.{ℕ, Bool, true, false, List, [], ◌∷◌, ◌++◌, Option, Some, None}
-use Rattle.gtd_hours_moments.specs.declared.behind.Behind.{Behind}
-use Rattle.gtd_hours_moments.specs.declared.behind.Behind.TheVariants as behind
-use Rattle.gtd_hours_moments.specs.declared.behind.Step.{Step}
-use Rattle.gtd_hours_moments.specs.declared.behind.Written.{Written}
-use Rattle.gtd_hours_moments.specs.declared.behind.Written.TheVariants as written
-use Rattle.gtd_hours_moments.specs.declared.moment.TimeForm.{TimeForm}
+use Rattle.gtd_hours_times.specs.declared.behind.Behind.{Behind}
+use Rattle.gtd_hours_times.specs.declared.behind.Behind.TheVariants as behind
+use Rattle.gtd_hours_times.specs.declared.behind.Step.{Step}
+use Rattle.gtd_hours_times.specs.declared.behind.Written.{Written}
+use Rattle.gtd_hours_times.specs.declared.behind.Written.TheVariants as written
+use Rattle.gtd_hours_times.specs.declared.moment.TimeForm.{TimeForm}
+use Rattle.gtd_hours_times.specs.declared.times.TimeToken.{TimeToken}
+use Rattle.gtd_hours_times.specs.Steps.{step_of}
 use Rattle.gtd_hours_moments.specs.declared.parts.Part.{Part}
-use Rattle.gtd_hours_moments.specs.declared.times.TimeToken.{TimeToken}
 use Rattle.gtd_hours_moments.specs.declared.told.Told.{Told}
-use Rattle.gtd_hours_moments.specs.Steps.{step_of}
 
 -- a form of times has begun, and is not whole
 abbrev pub goes_on : Behind → Bool

@@ -1,15 +1,15 @@
 -- The plain text that means what a text means: the ranges of each form, in place of the form.
 use Rattle.std.specs.Prelude.{ℕ, ◌/◌, ◌%◌, Bool, true, false, List, [], ◌∷◌, ◌++◌, Option, Some, None}
 use Rattle.gtd_hours.specs.Written.{two_digits}
-use Rattle.gtd_hours_moments.specs.declared.behind.Written.{Written}
-use Rattle.gtd_hours_moments.specs.declared.behind.Written.TheVariants as written
+use Rattle.gtd_hours_times.specs.declared.behind.Written.{Written}
+use Rattle.gtd_hours_times.specs.declared.behind.Written.TheVariants as written
+use Rattle.gtd_hours_times.specs.declared.moment.TimeForm.{TimeForm}
+use Rattle.gtd_hours_times.specs.Tokens.{stretch}
 use Rattle.gtd_hours_moments.specs.declared.clocks.Clocks.{Clocks}
-use Rattle.gtd_hours_moments.specs.declared.moment.TimeForm.{TimeForm}
 use Rattle.gtd_hours_moments.specs.declared.parts.Part.{Part}
 use Rattle.gtd_hours_moments.specs.declared.ranges.MinuteRange.{MinuteRange}
 use Rattle.gtd_hours_moments.specs.Places.{Put}
 use Rattle.gtd_hours_moments.specs.Ranges.{ranges}
-use Rattle.gtd_hours_moments.specs.Tokens.{stretch}
 
 -- A minute as `HH:MM`: the sign : is 58.
 abbrev pub clock : ℕ → List ℕ

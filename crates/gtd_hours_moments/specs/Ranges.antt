@@ -1,7 +1,7 @@
 -- The ranges of times that a form stands for, in minutes after 00:00 of the day on which they begin.
 use Rattle.std.specs.Prelude.{ℕ, zero, suc, ◌+◌, ◌-◌, min, max, Bool, true, false, List, [], ◌∷◌, Option, Some, None}
+use Rattle.gtd_hours_times.specs.declared.moment.TimeForm.{TimeForm}
 use Rattle.gtd_hours_moments.specs.declared.clocks.Clocks.{Clocks}
-use Rattle.gtd_hours_moments.specs.declared.moment.TimeForm.{TimeForm}
 use Rattle.gtd_hours_moments.specs.declared.ranges.MinuteRange.{MinuteRange}
 use Rattle.gtd_hours_moments.specs.Minutes.{last_minute, lasting, minute_at}
 

@@ -1,17 +1,15 @@
 -- A text with times of all forms, as it is read, and the plain text of the same meaning.
 use Rattle.std.specs.Prelude.{ℕ, List, ◌≡◌}
+use Rattle.gtd_hours_times.specs.declared.times.TimeToken.{TimeToken}
+use Rattle.gtd_hours_times.specs.Tokens.{AreTimeTokens}
 use Rattle.gtd_hours_moments.specs.declared.clocks.Clocks.{Clocks}
 use Rattle.gtd_hours_moments.specs.declared.parts.Part.{Part}
 use Rattle.gtd_hours_moments.specs.declared.placed.PlacedText.{PlacedText}
-use Rattle.gtd_hours_moments.specs.declared.stop.NoMomentText.{NoMomentText}
-use Rattle.gtd_hours_moments.specs.declared.stop.NoMomentText.TheVariants as stop
 use Rattle.gtd_hours_moments.specs.declared.text.MomentText.{MomentText}
-use Rattle.gtd_hours_moments.specs.declared.times.TimeToken.{TimeToken}
 use Rattle.gtd_hours_moments.specs.Checked.{checked_puts}
 use Rattle.gtd_hours_moments.specs.Parts.{breaks_off, forms_of, parts_of, told_of}
 use Rattle.gtd_hours_moments.specs.Places.{Holds}
 use Rattle.gtd_hours_moments.specs.Plain.{plain_puts}
-use Rattle.gtd_hours_moments.specs.Tokens.{AreTimeTokens, IsTimeFault}
 
 -- The parts are those of the text's tokens.
 pub record ArePartsIn (text : List ℕ) (parts : List Part) : Type 0 where
@@ -37,8 +35,3 @@ pub record IsPlainText (clocks : Clocks) (text : List ℕ) (plain : PlacedText) 
   pub tokens : List TimeToken
   pub are : AreTimeTokens text tokens
   pub holds : Holds plain (plain_puts clocks text (parts_of tokens))
-
--- Why there is none: a byte with which no token begins, or want of memory.
-abbrev pub IsNoMomentText : List ℕ → NoMomentText → Type 0
-IsNoMomentText text (stop.BadToken place) = IsTimeFault text place
-IsNoMomentText text stop.NoMemory = Unit {0}

@@ -6,8 +6,8 @@ ghost use Rattle.gtd_hours_moments.specs.Places.{Holds, Put};
 
 use crate::parts::Part;
 use crate::placed::{PlacedText, end_placed, nothing};
-use crate::times::stretch;
 use crate::written::push_written;
+use gtd_hours_times::stretch;
 use std::alloc::{AllocError, Global};
 
 fn push_checked(checked: &mut PlacedText, text: &[u8], part: Part) -> Result<(), AllocError>

@@ -4,6 +4,7 @@ ghost use Rattle.std.specs.Prelude.{◌≡◌, ◌≤◌, ◌<◌, ◌+◌, ◌+
 ghost use Rattle.gtd_hours.specs.Ranges.{end_of};
 ghost use Rattle.gtd_hours_parts.specs.Pieces.{AreWrittenTimes};
 ghost use Rattle.gtd_hours_parts.specs.Times.{minute_of};
+ghost use Rattle.gtd_hours_times.specs.declared.moment.TimeForm.{TimeForm};
 ghost use Rattle.gtd_hours_moments.specs.Meaning.{EachForm, IsAmong, IsDaily, IsOfDay, IsPlainRange, IsPoint};
 ghost use Rattle.gtd_hours_moments.specs.Meaning.{time_at, time_text};
 ghost use Rattle.gtd_hours_moments.specs.Minutes.{lasting};
@@ -11,22 +12,12 @@ ghost use Rattle.gtd_hours_moments.specs.Needs.{first_need, too_long};
 ghost use Rattle.gtd_hours_moments.specs.Plain.{range_text};
 ghost use Rattle.gtd_hours_moments.specs.Ranges.{step_ranges};
 ghost use Rattle.gtd_hours_moments.specs.Reading.{IsMomentText, IsPlainText};
-ghost use Rattle.gtd_hours_moments.specs.Tokens.{AreTimeTokens, IsTimeFault};
 ghost use Rattle.gtd_hours_moments.specs.declared.clocks.Clocks.{Clocks};
-ghost use Rattle.gtd_hours_moments.specs.declared.moment.TimeForm.{TimeForm};
 ghost use Rattle.gtd_hours_moments.specs.declared.placed.PlacedText.{PlacedText};
 ghost use Rattle.gtd_hours_moments.specs.declared.ranges.MinuteRange.{MinuteRange};
 ghost use Rattle.gtd_hours_moments.specs.declared.text.MomentText.{MomentText};
-ghost use Rattle.gtd_hours_moments.specs.declared.times.TimeToken.{TimeToken};
 
-/// A text is one list of tokens at most, and has one first byte at most with which no token begins. It never has both.
-pub fn one_reading()
-    ensures tokens { (text : List ℕ) (one other : List TimeToken) → AreTimeTokens text one → AreTimeTokens text other
-        → one ≡ other }
-    ensures fault { (text : List ℕ) (one other : ℕ) → IsTimeFault text one → IsTimeFault text other → one ≡ other }
-    ensures apart { (text : List ℕ) (tokens : List TimeToken) (place : ℕ) → AreTimeTokens text tokens
-        → IsTimeFault text place → ⊥ }
-{}
+pub use gtd_hours_times::laws::one_reading;
 
 /// A text has one checked text at most, and one list of forms, of which another one breaks off or none; with some options, one
 /// plain text at most.

@@ -4,31 +4,23 @@
 //! the forms of its times. With some options it is made into a plain text that means what the text means.
 #![tactic(auto)]
 
-mod behind;
 mod checked;
 mod clocks;
-mod forms;
 pub mod laws;
 mod minutes;
-mod moment;
 mod needs;
 mod parts;
 mod placed;
 mod plain;
 mod ranges;
-mod steps;
-mod stop;
 mod text;
-mod times;
-mod tokens;
 mod told;
 mod written;
 
 pub use clocks::Clocks;
-pub use moment::{Event, Moment, TimeForm};
+pub use gtd_hours_times::{Event, Moment, NoMomentText, TimeForm};
 pub use needs::{Need, NeedKind, first_need, too_long};
 pub use placed::{Placed, PlacedText, written_place, written_places};
 pub use plain::plain_text;
-pub use stop::NoMomentText;
 pub use text::{MomentText, moment_text};
 pub use told::{Told, told_fault};

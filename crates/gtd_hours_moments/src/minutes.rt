@@ -4,7 +4,7 @@ ghost use Rattle.std.specs.Prelude.{◌≡◌, ◌<◌, ◌^◌, pos, ◌+ℤ◌
 ghost use Rattle.gtd_hours_moments.specs.Minutes.{base_of, event_minutes, lasting, last_minute, minute_after, minute_at};
 
 use crate::clocks::Clocks;
-use crate::moment::{Event, Moment};
+use gtd_hours_times::{Event, Moment};
 
 /// What is given for an event.
 pub fn event_minutes(clocks: &Clocks, event: Event) -> Option<u16>

@@ -7,7 +7,7 @@ ghost use Rattle.gtd_hours_moments.specs.Needs.{sign_need, too_long};
 
 use crate::clocks::Clocks;
 use crate::minutes::{event_minutes, lasting, minute_after, minute_at};
-use crate::moment::{Moment, TimeForm};
+use gtd_hours_times::{Moment, TimeForm};
 
 /// What is missing or wrong.
 #[derive(Clone, Copy, Debug, PartialEq, Eq)]

@@ -1,16 +1,14 @@
 //! The tokens of a text, with what becomes of each.
 
 ghost use Rattle.std.specs.Prelude.{◌≡◌, ◌++◌, ◌∷◌, [], IfErr, IfOk, OnOk};
-ghost use Rattle.gtd_hours_moments.specs.Reading.{ArePartsIn, IsNoMomentText};
+ghost use Rattle.gtd_hours_times.specs.Tokens.{IsNoMomentText};
+ghost use Rattle.gtd_hours_moments.specs.Reading.{ArePartsIn};
 ghost use Rattle.gtd_hours_moments.specs.Parts.{breaks_off, forms_of, goes_on, part_of, parts_of, told_at, told_of, whole_of};
 
-use crate::behind::{Behind, Step, Written};
-use crate::moment::TimeForm;
-use crate::steps::step_of;
-use crate::stop::NoMomentText;
-use crate::times::TimeToken;
-use crate::tokens::time_tokens;
 use crate::told::Told;
+use gtd_hours_times::{
+    Behind, NoMomentText, Step, TimeForm, TimeToken, Written, step_of, time_tokens,
+};
 use std::alloc::{AllocError, Global};
 
 /// A token, and what becomes of it.

@@ -2,19 +2,17 @@
 
 ghost use Rattle.std.specs.Prelude.{◌≡◌, ◌<◌, ◌++◌, ◌∷◌, List, IfErr, IfOk, OnOk, true};
 ghost use Rattle.gtd_hours.specs.Written.{two_digits};
+ghost use Rattle.gtd_hours_times.specs.Tokens.{IsNoMomentText};
 ghost use Rattle.gtd_hours_moments.specs.Places.{Holds, Put};
 ghost use Rattle.gtd_hours_moments.specs.Plain.{clock, joined, kept_at, plain_at, plain_puts, range_text, unless_first};
 ghost use Rattle.gtd_hours_moments.specs.Ranges.{ranges};
-ghost use Rattle.gtd_hours_moments.specs.Reading.{IsNoMomentText, IsPlainText};
+ghost use Rattle.gtd_hours_moments.specs.Reading.{IsPlainText};
 
-use crate::behind::Written;
 use crate::clocks::Clocks;
-use crate::moment::TimeForm;
 use crate::parts::{Part, parts_in};
 use crate::placed::{PlacedText, nothing, push_placed};
 use crate::ranges::{MinuteRange, ranges_of};
-use crate::stop::NoMomentText;
-use crate::times::stretch;
+use gtd_hours_times::{NoMomentText, TimeForm, Written, stretch};
 use std::alloc::{AllocError, Global};
 
 fn push_two_digits(out: &mut Vec<u8>, number: u64) -> Result<(), AllocError>

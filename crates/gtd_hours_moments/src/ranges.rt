@@ -7,7 +7,7 @@ ghost use Rattle.gtd_hours_moments.specs.Ranges.{range_after, ranges, ranges_bet
 
 use crate::clocks::Clocks;
 use crate::minutes::{last_minute, lasting, minute_at};
-use crate::moment::TimeForm;
+use gtd_hours_times::TimeForm;
 use std::alloc::{AllocError, Global};
 
 /// A range of times, in minutes after 00:00 of the day on which it begins.

@@ -1,14 +1,14 @@
 //! A text with times of all forms as a checked text and its forms.
 
 ghost use Rattle.std.specs.Prelude.{◌≡◌, IfErr, IfOk};
-ghost use Rattle.gtd_hours_moments.specs.Reading.{HasParts, IsMomentText, IsNoMomentText};
+ghost use Rattle.gtd_hours_times.specs.Tokens.{IsNoMomentText};
+ghost use Rattle.gtd_hours_moments.specs.Reading.{HasParts, IsMomentText};
 
 use crate::checked::checked_text;
-use crate::moment::TimeForm;
 use crate::parts::{Part, breaks_off, forms_of, parts_in, told_of};
 use crate::placed::PlacedText;
-use crate::stop::NoMomentText;
 use crate::told::Told;
+use gtd_hours_times::{NoMomentText, TimeForm};
 use std::alloc::{AllocError, Global};
 
 /// A text with times of all forms.

@@ -3,7 +3,7 @@
 ghost use Rattle.std.specs.Prelude.{◌≡◌, ◌++◌, OnOk};
 ghost use Rattle.gtd_hours_moments.specs.Checked.{form_of};
 
-use crate::behind::Written;
+use gtd_hours_times::Written;
 use std::alloc::AllocError;
 
 fn push_time(out: &mut Vec<u8>, time: &[u8], end: &[u8]) -> Result<(), AllocError>

@@ -5,17 +5,17 @@ use Rattle.gtd_hours_known.specs.Reading.{IsKnownFault, KnownStandsFor}
 use Rattle.gtd_hours_known.specs.declared.fault.KnownFault.{KnownFault}
 use Rattle.gtd_hours_known.specs.declared.fault.KnownFault.TheVariants as of_text
 use Rattle.gtd_hours_known.specs.declared.known.KnownHours.{KnownHours}
+use Rattle.gtd_hours_times.specs.Tokens.{AreTimeTokens, IsTimeFault}
+use Rattle.gtd_hours_times.specs.declared.times.TimeToken.{TimeToken}
 use Rattle.gtd_hours_moments.specs.Parts.{parts_of}
 use Rattle.gtd_hours_moments.specs.Places.{places_from, written_place}
 use Rattle.gtd_hours_moments.specs.Plain.{plain_puts}
 use Rattle.gtd_hours_moments.specs.Reading.{IsMomentText, IsPlainText}
 use Rattle.gtd_hours_moments.specs.Told.{is_incomplete, told_there}
-use Rattle.gtd_hours_moments.specs.Tokens.{AreTimeTokens, IsTimeFault}
 use Rattle.gtd_hours_moments.specs.declared.clocks.Clocks.{Clocks}
 use Rattle.gtd_hours_moments.specs.declared.placed.Placed.{Placed}
 use Rattle.gtd_hours_moments.specs.declared.placed.PlacedText.{PlacedText}
 use Rattle.gtd_hours_moments.specs.declared.text.MomentText.{MomentText}
-use Rattle.gtd_hours_moments.specs.declared.times.TimeToken.{TimeToken}
 use Rattle.gtd_hours_options.specs.First.{checked_fault, first_of, has_times, needed, or_time, time_fault}
 use Rattle.gtd_hours_options.specs.Misfits.{first_misfit, with_misfits}
 use Rattle.gtd_hours_options.specs.Reading.{IsGiven, IsOptionsFault, IsOtherFault, IsPlainReading, IsTimesFault}

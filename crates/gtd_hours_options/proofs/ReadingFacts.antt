@@ -6,10 +6,11 @@ use Rattle.gtd_hours_known.specs.declared.fault.KnownFault.{KnownFault}
 use Rattle.gtd_hours_known.specs.declared.fault.KnownReadFault.{KnownReadFault}
 use Rattle.gtd_hours_known.specs.declared.fault.KnownReadFault.TheVariants as known_reading
 use Rattle.gtd_hours_known.specs.declared.known.KnownHours.{KnownHours}
-use Rattle.gtd_hours_moments.specs.Reading.{IsNoMomentText, IsPlainText}
+use Rattle.gtd_hours_times.specs.Tokens.{IsNoMomentText}
+use Rattle.gtd_hours_times.specs.declared.stop.NoMomentText.{NoMomentText}
+use Rattle.gtd_hours_times.specs.declared.stop.NoMomentText.TheVariants as stop
+use Rattle.gtd_hours_moments.specs.Reading.{IsPlainText}
 use Rattle.gtd_hours_moments.specs.declared.placed.PlacedText.{PlacedText}
-use Rattle.gtd_hours_moments.specs.declared.stop.NoMomentText.{NoMomentText}
-use Rattle.gtd_hours_moments.specs.declared.stop.NoMomentText.TheVariants as stop
 use Rattle.gtd_hours_moments.specs.declared.text.MomentText.{MomentText}
 use Rattle.gtd_hours_options.specs.Reading.{HasTimes, IsGiven, IsOptionsStop, IsOtherStop, IsPlainReading, IsTimesStop}
 use Rattle.gtd_hours_options.specs.Reading.{StandsWith, checked, checked_stop, plain, plain_stop, timed, token, within}

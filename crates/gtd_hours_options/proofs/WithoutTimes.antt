@@ -5,11 +5,11 @@ use Rattle.std.specs.Prelude.{◌||◌, is_some}
 use Rattle.gtd_hours_known.specs.Reading.{IsKnownFault, KnownStandsFor}
 use Rattle.gtd_hours_known.specs.declared.fault.KnownFault.{KnownFault}
 use Rattle.gtd_hours_known.specs.declared.known.KnownHours.{KnownHours}
+use Rattle.gtd_hours_times.specs.Tokens.{AreTimeTokens, IsTimeFault}
+use Rattle.gtd_hours_times.specs.declared.moment.TimeForm.{TimeForm}
+use Rattle.gtd_hours_times.specs.declared.times.TimeToken.{TimeToken}
 use Rattle.gtd_hours_moments.specs.Reading.{IsMomentText}
-use Rattle.gtd_hours_moments.specs.Tokens.{AreTimeTokens, IsTimeFault}
-use Rattle.gtd_hours_moments.specs.declared.moment.TimeForm.{TimeForm}
 use Rattle.gtd_hours_moments.specs.declared.text.MomentText.{MomentText}
-use Rattle.gtd_hours_moments.specs.declared.times.TimeToken.{TimeToken}
 use Rattle.gtd_hours_moments.specs.declared.told.Told.{Told}
 use Rattle.gtd_hours_options.specs.First.{has_forms, has_times}
 use Rattle.gtd_hours_options.specs.Misfits.{first_misfit}

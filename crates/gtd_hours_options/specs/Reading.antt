@@ -1,7 +1,7 @@
 -- The hours of a text with options, as it is written, and its first fault.
 use Rattle.std.specs.Prelude.{◌≡◌, ℕ, true, false, List, length, Some, None}
+use Rattle.gtd_hours_times.specs.Tokens.{IsTimeFault}
 use Rattle.gtd_hours_moments.specs.Reading.{IsMomentText, IsPlainText}
-use Rattle.gtd_hours_moments.specs.Tokens.{IsTimeFault}
 use Rattle.gtd_hours_moments.specs.declared.clocks.Clocks.{Clocks}
 use Rattle.gtd_hours_moments.specs.declared.placed.Placed.{Placed}
 use Rattle.gtd_hours_moments.specs.declared.placed.PlacedText.{PlacedText}

@@ -1,10 +1,10 @@
 -- What is told of the checked text and of the plain text, at places of the text.
 use Rattle.std.specs.Prelude.{◌≡◌, ℕ, List, map, Option, Some, None}
+use Rattle.gtd_hours_times.specs.declared.stop.NoMomentText.{NoMomentText}
+use Rattle.gtd_hours_times.specs.declared.stop.NoMomentText.TheVariants as stop
 use Rattle.gtd_hours_moments.specs.Places.{written_place}
 use Rattle.gtd_hours_moments.specs.Told.{told_fault}
 use Rattle.gtd_hours_moments.specs.declared.placed.Placed.{Placed}
-use Rattle.gtd_hours_moments.specs.declared.stop.NoMomentText.{NoMomentText}
-use Rattle.gtd_hours_moments.specs.declared.stop.NoMomentText.TheVariants as stop
 use Rattle.gtd_hours_moments.specs.declared.text.MomentText.{MomentText}
 use Rattle.gtd_hours_known.specs.Faults as known
 use Rattle.gtd_hours_known.specs.declared.fault.KnownFault.{KnownFault}

@@ -3,11 +3,11 @@ use Rattle.std.proofs.Common.{◌≡◌, ◌∙◌, sym, ap, subst, ℕ, List, l
 use Rattle.gtd_hours_holiday_rules.specs.Reading.{IsHolidayText}
 use Rattle.gtd_hours_holiday_rules.specs.declared.text.HolidayText.{HolidayText}
 use Rattle.gtd_hours_items.specs.Comments.{IsBadPlace}
+use Rattle.gtd_hours_times.specs.Tokens.{AreTimeTokens, IsTimeFault}
+use Rattle.gtd_hours_times.specs.declared.times.TimeToken.{TimeToken}
 use Rattle.gtd_hours_moments.specs.Reading.{IsMomentText}
-use Rattle.gtd_hours_moments.specs.Tokens.{AreTimeTokens, IsTimeFault}
 use Rattle.gtd_hours_moments.specs.declared.placed.Placed.{Placed}
 use Rattle.gtd_hours_moments.specs.declared.text.MomentText.{MomentText}
-use Rattle.gtd_hours_moments.specs.declared.times.TimeToken.{TimeToken}
 use Rattle.gtd_hours_warnings.specs.WholeDays.{ArePlainDays, AreWholeDays, written_places}
 
 module _ (one_days : (text : List ℕ) (one other : HolidayText) → IsHolidayText text one → IsHolidayText text other

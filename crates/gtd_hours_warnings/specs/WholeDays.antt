@@ -3,9 +3,9 @@ use Rattle.std.specs.Prelude.{◌≡◌, ℕ, List, [], length, map}
 use Rattle.gtd_hours_holiday_rules.specs.Reading.{IsHolidayText}
 use Rattle.gtd_hours_holiday_rules.specs.declared.text.HolidayText.{HolidayText}
 use Rattle.gtd_hours_items.specs.Comments.{IsBadPlace}
+use Rattle.gtd_hours_times.specs.Tokens.{IsTimeFault}
 use Rattle.gtd_hours_moments.specs.Places.{written_place}
 use Rattle.gtd_hours_moments.specs.Reading.{IsMomentText}
-use Rattle.gtd_hours_moments.specs.Tokens.{IsTimeFault}
 use Rattle.gtd_hours_moments.specs.declared.placed.Placed.{Placed}
 use Rattle.gtd_hours_moments.specs.declared.text.MomentText.{MomentText}
 

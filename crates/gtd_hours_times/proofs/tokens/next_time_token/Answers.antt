@@ -2,10 +2,10 @@
 use Rattle.std.proofs.Common.{Option, Ok, refl, subst, sym}
 use Rattle.gtd_hours_tokens.specs.Lexing.{AreSpaces, IsNext}
 use Rattle.gtd_hours_tokens.specs.declared.token.Token.{Token}
-use Rattle.gtd_hours_moments.specs.Tokens.{IsTimeToken, plain}
-use Rattle.gtd_hours_moments.specs.declared.times.TimeToken.{TimeToken}
-use Rattle.gtd_hours_moments.proofs.TokenLemmas.{stop_time}
-use Rattle.gtd_hours_moments.proofs.tokens.next_time_token.Goals as goal
+use Rattle.gtd_hours_times.specs.Tokens.{IsTimeToken, plain}
+use Rattle.gtd_hours_times.specs.declared.times.TimeToken.{TimeToken}
+use Rattle.gtd_hours_times.proofs.TokenLemmas.{stop_time}
+use Rattle.gtd_hours_times.proofs.tokens.next_time_token.Goals as goal
 
 pub returns-in-Some-clause-next : goal.returns-in-Some-clause-next
 returns-in-Some-clause-next c =

@@ -1,10 +1,10 @@
 //! What becomes of each token of a text.
 
 ghost use Rattle.std.specs.Prelude.{◌≡◌};
-ghost use Rattle.gtd_hours_moments.specs.Steps.{begun_step, dashed_step, free_step, moment_front, moved_step, named_step};
-ghost use Rattle.gtd_hours_moments.specs.Steps.{misfit, misfit_of, offset_step, opened_step, opening_step, ranged_step, is_step};
-ghost use Rattle.gtd_hours_moments.specs.Steps.{signed_misfit, signed_step, slash_form, slashed_step, step_of, whole_step};
-ghost use Rattle.gtd_hours_moments.specs.Steps.{offset_minutes, open_form, points_form, step_step, unread_step};
+ghost use Rattle.gtd_hours_times.specs.Steps.{begun_step, dashed_step, free_step, moment_front, moved_step, named_step};
+ghost use Rattle.gtd_hours_times.specs.Steps.{misfit, misfit_of, offset_step, opened_step, opening_step, ranged_step, is_step};
+ghost use Rattle.gtd_hours_times.specs.Steps.{signed_misfit, signed_step, slash_form, slashed_step, step_of, whole_step};
+ghost use Rattle.gtd_hours_times.specs.Steps.{offset_minutes, open_form, points_form, step_step, unread_step};
 
 use crate::behind::{Behind, Start, Step, Written};
 use crate::forms::{

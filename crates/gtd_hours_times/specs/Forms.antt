@@ -1,17 +1,17 @@
 -- Moments and forms of times, as they are read token by token: what becomes of a token that a moment ends with.
 use Rattle.std.specs.Prelude.{ℕ, ◌+◌, ◌*◌, ◌==◌, ◌&&◌, ◌||◌, not, Bool, true, false, List, [], ◌∷◌, pos, is_some}
 use Rattle.std.specs.Prelude.{Option, Some, None, if◌then◌else◌}
-use Rattle.gtd_hours_moments.specs.declared.behind.Behind.{Behind}
-use Rattle.gtd_hours_moments.specs.declared.behind.Behind.TheVariants as behind
-use Rattle.gtd_hours_moments.specs.declared.behind.Start.{Start}
-use Rattle.gtd_hours_moments.specs.declared.behind.Step.{Step}
-use Rattle.gtd_hours_moments.specs.declared.behind.Written.{Written}
-use Rattle.gtd_hours_moments.specs.declared.behind.Written.TheVariants as written
-use Rattle.gtd_hours_moments.specs.declared.moment.Moment.{Moment}
-use Rattle.gtd_hours_moments.specs.declared.moment.TimeForm.{TimeForm}
-use Rattle.gtd_hours_moments.specs.declared.times.TimeKind.{TimeKind}
-use Rattle.gtd_hours_moments.specs.declared.times.TimeKind.TheVariants as kind
-use Rattle.gtd_hours_moments.specs.declared.times.TimeToken.{TimeToken}
+use Rattle.gtd_hours_times.specs.declared.behind.Behind.{Behind}
+use Rattle.gtd_hours_times.specs.declared.behind.Behind.TheVariants as behind
+use Rattle.gtd_hours_times.specs.declared.behind.Start.{Start}
+use Rattle.gtd_hours_times.specs.declared.behind.Step.{Step}
+use Rattle.gtd_hours_times.specs.declared.behind.Written.{Written}
+use Rattle.gtd_hours_times.specs.declared.behind.Written.TheVariants as written
+use Rattle.gtd_hours_times.specs.declared.moment.Moment.{Moment}
+use Rattle.gtd_hours_times.specs.declared.moment.TimeForm.{TimeForm}
+use Rattle.gtd_hours_times.specs.declared.times.TimeKind.{TimeKind}
+use Rattle.gtd_hours_times.specs.declared.times.TimeKind.TheVariants as kind
+use Rattle.gtd_hours_times.specs.declared.times.TimeToken.{TimeToken}
 
 abbrev pub is_plus : TimeKind → Bool
 is_plus kind.Plus = true

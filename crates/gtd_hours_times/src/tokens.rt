@@ -1,8 +1,7 @@
 //! The tokens of a text.
 
 ghost use Rattle.std.specs.Prelude.{◌≡◌, ◌≤◌, ◌<◌, ◌++◌, ◌∷◌, [], IfErr, IfOk, IfSome, OnOk, length};
-ghost use Rattle.gtd_hours_moments.specs.Reading.{IsNoMomentText};
-ghost use Rattle.gtd_hours_moments.specs.Tokens.{AreTimeTokens, IsNextTime};
+ghost use Rattle.gtd_hours_times.specs.Tokens.{AreTimeTokens, IsNextTime, IsNoMomentText};
 
 use crate::stop::NoMomentText;
 use crate::times::{TimeToken, parenthesis_at, time_token};

@@ -12,10 +12,10 @@ use Rattle.gtd_hours_tokens.specs.Lexing.{AreSpaces, BeginsNoToken, IsStop, IsTo
 use Rattle.gtd_hours_tokens.specs.TokenAt.{front, placed, token_at}
 use Rattle.gtd_hours_tokens.specs.declared.token.Token.{Token}
 use Rattle.gtd_hours_tokens.specs.facts.TokenForms.{are_computed, begins_inside, goes_on, no_space}
-use Rattle.gtd_hours_moments.specs.declared.times.TimeKind.{TimeKind}
-use Rattle.gtd_hours_moments.specs.declared.times.TimeToken.{TimeToken}
-use Rattle.gtd_hours_moments.specs.Tokens.{AreTimeTokens, BeginsNone, IsNextTime, IsTimeFault, IsTimeStop, IsTimeToken}
-use Rattle.gtd_hours_moments.specs.Tokens.{parenthesis, parenthesis_at, plain, sign, sign_at, time_token}
+use Rattle.gtd_hours_times.specs.declared.times.TimeKind.{TimeKind}
+use Rattle.gtd_hours_times.specs.declared.times.TimeToken.{TimeToken}
+use Rattle.gtd_hours_times.specs.Tokens.{AreTimeTokens, BeginsNone, IsNextTime, IsTimeFault, IsTimeStop, IsTimeToken}
+use Rattle.gtd_hours_times.specs.Tokens.{parenthesis, parenthesis_at, plain, sign, sign_at, time_token}
 
 -- ---- parentheses are no tokens of plain hours
 

@@ -2,11 +2,10 @@
 use Rattle.std.proofs.Common.{◌≤◌, List, Option, Ok, length, subst, sym}
 use Rattle.std.specs.Prelude.{IfSome}
 use Rattle.std.proofs.lemmas.Result.{err_from_is_err_and}
-use Rattle.gtd_hours_moments.specs.Reading.{IsNoMomentText}
-use Rattle.gtd_hours_moments.specs.Tokens.{IsNextTime}
-use Rattle.gtd_hours_moments.specs.declared.times.TimeToken.{TimeToken}
-use Rattle.gtd_hours_moments.proofs.TokenLemmas.{HasTokens, all_tokens, fault_read, with_token}
-use Rattle.gtd_hours_moments.proofs.tokens.time_tokens.Goals as goal
+use Rattle.gtd_hours_times.specs.Tokens.{IsNextTime, IsNoMomentText}
+use Rattle.gtd_hours_times.specs.declared.times.TimeToken.{TimeToken}
+use Rattle.gtd_hours_times.proofs.TokenLemmas.{HasTokens, all_tokens, fault_read, with_token}
+use Rattle.gtd_hours_times.proofs.tokens.time_tokens.Goals as goal
 
 pub loop-tokens-preserved : goal.loop-tokens-preserved
 loop-tokens-preserved c =

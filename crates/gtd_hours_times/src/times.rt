@@ -1,8 +1,8 @@
 //! What tokens are for the forms of times.
 
 ghost use Rattle.std.specs.Prelude.{◌≡◌, ◌<◌, length};
-ghost use Rattle.gtd_hours_moments.specs.Tokens.{begins_quoted, event_of, is_of_rules, kind_of, parenthesis, parenthesis_at};
-ghost use Rattle.gtd_hours_moments.specs.Tokens.{stretch, time_token, unread};
+ghost use Rattle.gtd_hours_times.specs.Tokens.{begins_quoted, event_of, is_of_rules, kind_of, parenthesis, parenthesis_at};
+ghost use Rattle.gtd_hours_times.specs.Tokens.{stretch, time_token, unread};
 
 use crate::moment::Event;
 use gtd_hours_tokens::{Token, TokenKind};

@@ -1,6 +1,6 @@
 -- Two lists of tokens of a text are the same, two first faults are the same, and a text never has both.
-use Rattle.gtd_hours_moments.proofs.TokenLemmas.{apart, one_fault, one_list}
-use Rattle.gtd_hours_moments.proofs.laws.one_reading.Goals as goal
+use Rattle.gtd_hours_times.proofs.TokenLemmas.{apart, one_fault, one_list}
+use Rattle.gtd_hours_times.proofs.laws.one_reading.Goals as goal
 
 pub returns-clause-tokens : goal.returns-clause-tokens
 returns-clause-tokens c = one_list

@@ -20,7 +20,7 @@ pub enum NoMomentText {
 
 impl From<AllocError> for NoMomentText {
     ghost use Rattle.std.specs.Prelude.{◌≡◌};
-    ghost use Rattle.gtd_hours_moments.specs.declared.stop.NoMomentText.TheVariants.{NoMemory};
+    ghost use Rattle.gtd_hours_times.specs.declared.stop.NoMomentText.TheVariants.{NoMemory};
 
     ghost from_gives = { λ _ stop. stop ≡ NoMemory };
 
@@ -31,7 +31,7 @@ impl From<AllocError> for NoMomentText {
 
 impl From<BadToken> for NoMomentText {
     ghost use Rattle.std.specs.Prelude.{◌≡◌};
-    ghost use Rattle.gtd_hours_moments.specs.declared.stop.NoMomentText.TheVariants as stops;
+    ghost use Rattle.gtd_hours_times.specs.declared.stop.NoMomentText.TheVariants as stops;
 
     ghost from_gives = { λ bad stop. stop ≡ stops.BadToken bad.place };
 

@@ -9,11 +9,13 @@ use Rattle.gtd_hours_tokens.specs.declared.token.BadToken.{BadToken}
 use Rattle.gtd_hours_tokens.specs.declared.token.Token.{Token}
 use Rattle.gtd_hours_tokens.specs.declared.token.TokenKind.{TokenKind}
 use Rattle.gtd_hours_tokens.specs.declared.token.TokenKind.TheVariants as token_kind
-use Rattle.gtd_hours_moments.specs.declared.moment.Event.{Event}
-use Rattle.gtd_hours_moments.specs.declared.moment.Event.TheVariants as event
-use Rattle.gtd_hours_moments.specs.declared.times.TimeKind.{TimeKind}
-use Rattle.gtd_hours_moments.specs.declared.times.TimeKind.TheVariants as kind
-use Rattle.gtd_hours_moments.specs.declared.times.TimeToken.{TimeToken}
+use Rattle.gtd_hours_times.specs.declared.moment.Event.{Event}
+use Rattle.gtd_hours_times.specs.declared.moment.Event.TheVariants as event
+use Rattle.gtd_hours_times.specs.declared.stop.NoMomentText.{NoMomentText}
+use Rattle.gtd_hours_times.specs.declared.stop.NoMomentText.TheVariants as stop
+use Rattle.gtd_hours_times.specs.declared.times.TimeKind.{TimeKind}
+use Rattle.gtd_hours_times.specs.declared.times.TimeKind.TheVariants as kind
+use Rattle.gtd_hours_times.specs.declared.times.TimeToken.{TimeToken}
 
 -- From one place of a text up to but not including another.
 abbrev pub stretch : List ℕ → ℕ → ℕ → List ℕ
@@ -106,3 +108,8 @@ pub record IsTimeFault (text : List ℕ) (place : ℕ) : Type 0 where
   pub inside : place < length text
   pub no_space : slice_index text place ≢ 32
   pub no_token : BeginsNone text place
+
+-- Why there is none: a byte with which no token begins, or want of memory.
+abbrev pub IsNoMomentText : List ℕ → NoMomentText → Type 0
+IsNoMomentText text (stop.BadToken place) = IsTimeFault text place
+IsNoMomentText text stop.NoMemory = Unit {0}

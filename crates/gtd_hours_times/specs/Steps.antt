@@ -3,20 +3,20 @@ use Rattle.std.specs.Prelude.{ℕ, ◌&&◌, nat_le, nat_lt, not, Bool, true, fa
 use Rattle.std.specs.Prelude.{Option, Some, None, if◌then◌else◌}
 use Rattle.gtd_hours_grammar.specs.declared.fault.FaultKind.{FaultKind}
 use Rattle.gtd_hours_grammar.specs.declared.fault.FaultKind.TheVariants as fault
-use Rattle.gtd_hours_moments.specs.declared.behind.Behind.{Behind}
-use Rattle.gtd_hours_moments.specs.declared.behind.Behind.TheVariants as behind
-use Rattle.gtd_hours_moments.specs.declared.behind.Start.{Start}
-use Rattle.gtd_hours_moments.specs.declared.behind.Step.{Step}
-use Rattle.gtd_hours_moments.specs.declared.behind.Written.{Written}
-use Rattle.gtd_hours_moments.specs.declared.behind.Written.TheVariants as written
-use Rattle.gtd_hours_moments.specs.declared.moment.Event.{Event}
-use Rattle.gtd_hours_moments.specs.declared.moment.Moment.{Moment}
-use Rattle.gtd_hours_moments.specs.declared.moment.TimeForm.{TimeForm}
-use Rattle.gtd_hours_moments.specs.declared.times.TimeKind.{TimeKind}
-use Rattle.gtd_hours_moments.specs.declared.times.TimeKind.TheVariants as kind
-use Rattle.gtd_hours_moments.specs.declared.times.TimeToken.{TimeToken}
-use Rattle.gtd_hours_moments.specs.Forms.{begins_event, closed_form, event_form, is_plus, moment_step, opened_form, time_form}
-use Rattle.gtd_hours_moments.specs.Forms.{time_minutes, time_moment}
+use Rattle.gtd_hours_times.specs.declared.behind.Behind.{Behind}
+use Rattle.gtd_hours_times.specs.declared.behind.Behind.TheVariants as behind
+use Rattle.gtd_hours_times.specs.declared.behind.Start.{Start}
+use Rattle.gtd_hours_times.specs.declared.behind.Step.{Step}
+use Rattle.gtd_hours_times.specs.declared.behind.Written.{Written}
+use Rattle.gtd_hours_times.specs.declared.behind.Written.TheVariants as written
+use Rattle.gtd_hours_times.specs.declared.moment.Event.{Event}
+use Rattle.gtd_hours_times.specs.declared.moment.Moment.{Moment}
+use Rattle.gtd_hours_times.specs.declared.moment.TimeForm.{TimeForm}
+use Rattle.gtd_hours_times.specs.declared.times.TimeKind.{TimeKind}
+use Rattle.gtd_hours_times.specs.declared.times.TimeKind.TheVariants as kind
+use Rattle.gtd_hours_times.specs.declared.times.TimeToken.{TimeToken}
+use Rattle.gtd_hours_times.specs.Forms.{begins_event, closed_form, event_form, is_plus, moment_step, opened_form, time_form}
+use Rattle.gtd_hours_times.specs.Forms.{time_minutes, time_moment}
 
 abbrev pub step_to : Written → Behind → Step
 step_to form b = record { written = form; behind = b; whole = None }

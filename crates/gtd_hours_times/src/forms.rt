@@ -1,9 +1,9 @@
 //! Moments and forms of times, as they are read token by token.
 
 ghost use Rattle.std.specs.Prelude.{◌≡◌};
-ghost use Rattle.gtd_hours_moments.specs.Forms.{behind_moment, begins_event, closed_form, event_form, goes_on, is_dash};
-ghost use Rattle.gtd_hours_moments.specs.Forms.{is_event, is_last_midnight, is_plus, is_slash, last_time_form, moment_step};
-ghost use Rattle.gtd_hours_moments.specs.Forms.{opened_form, plain_form, time_form, time_minutes, time_moment, whole_at};
+ghost use Rattle.gtd_hours_times.specs.Forms.{behind_moment, begins_event, closed_form, event_form, goes_on, is_dash};
+ghost use Rattle.gtd_hours_times.specs.Forms.{is_event, is_last_midnight, is_plus, is_slash, last_time_form, moment_step};
+ghost use Rattle.gtd_hours_times.specs.Forms.{opened_form, plain_form, time_form, time_minutes, time_moment, whole_at};
 
 use crate::behind::{Behind, Start, Step, Written};
 use crate::moment::{Event, Moment, TimeForm};
