@@ -16,20 +16,20 @@ use Rattle.gtd_hours_times.specs.declared.moment.TimeForm.{TimeForm}
 use Rattle.gtd_hours_text.specs.Standing.{StandsFor}
 use Rattle.gtd_hours_text.specs.facts.OneMeaning.{same_rules}
 use Rattle.gtd_hours_text.specs.facts.SameRules.{SameRules}
-use Rattle.gtd_hours_mended.specs.Days.{with_month_days}
-use Rattle.gtd_hours_mended.specs.Joining.{is_nothing, spaced}
+use Rattle.gtd_hours_writing.specs.Days.{with_month_days}
+use Rattle.gtd_hours_writing.specs.Joining.{is_nothing, spaced}
+use Rattle.gtd_hours_writing.specs.Rules.{behind_years, closes, days_by, days_text, first_closes, first_kinds, first_times}
+use Rattle.gtd_hours_writing.specs.Rules.{goes_into, has_days, is_open, is_some_easter, is_some_form, is_some_holiday}
+use Rattle.gtd_hours_writing.specs.Rules.{is_some_selector, kinds_of, month_days_text, more_rules_text, needs_word, or_always}
+use Rattle.gtd_hours_writing.specs.Rules.{rule_text, rules_text, says_open, selectors_text, spans_text, weeks_text}
+use Rattle.gtd_hours_writing.specs.Rules.{with_years, word_text}
+use Rattle.gtd_hours_writing.specs.Selecting.{selectors_if, selectors_of}
+use Rattle.gtd_hours_writing.specs.Times.{with_forms}
+use Rattle.gtd_hours_writing.specs.declared.classes.Class.{Class}
+use Rattle.gtd_hours_writing.specs.declared.classes.Class.TheVariants as class
+use Rattle.gtd_hours_writing.specs.declared.rule.MendedRule.{MendedRule}
 use Rattle.gtd_hours_mended.specs.Making.{AreMade, IsMade, comment_in, first_comment, times_in}
-use Rattle.gtd_hours_mended.specs.Rules.{behind_years, closes, days_by, days_text, first_closes, first_kinds, first_times}
-use Rattle.gtd_hours_mended.specs.Rules.{goes_into, has_days, is_open, is_some_easter, is_some_form, is_some_holiday}
-use Rattle.gtd_hours_mended.specs.Rules.{is_some_selector, kinds_of, month_days_text, more_rules_text, needs_word, or_always}
-use Rattle.gtd_hours_mended.specs.Rules.{rule_text, rules_text, says_open, selectors_text, spans_text, weeks_text}
-use Rattle.gtd_hours_mended.specs.Rules.{with_years, word_text}
-use Rattle.gtd_hours_mended.specs.Selecting.{selectors_if, selectors_of}
-use Rattle.gtd_hours_mended.specs.Times.{with_forms}
-use Rattle.gtd_hours_mended.specs.declared.classes.Class.{Class}
-use Rattle.gtd_hours_mended.specs.declared.classes.Class.TheVariants as class
 use Rattle.gtd_hours_mended.specs.declared.comments.Stretch.{Stretch}
-use Rattle.gtd_hours_mended.specs.declared.rule.MendedRule.{MendedRule}
 
 -- All that is written of them is the same.
 pub record AreAlike (one other : MendedRule) : Type 0 where

@@ -5,11 +5,11 @@ use Rattle.gtd_hours_grammar.specs.declared.fault.HoursFault.{HoursFault}
 use Rattle.gtd_hours_holiday_rules.specs.declared.rules.HolidayRule.{HolidayRule}
 use Rattle.gtd_hours_known.specs.Rules.{IsRuleFault}
 use Rattle.gtd_hours_times.specs.declared.moment.TimeForm.{TimeForm}
+use Rattle.gtd_hours_writing.specs.declared.rule.MendedRule.{MendedRule}
 use Rattle.gtd_hours_mended.specs.Making.{AreMade, IsMade, IsMakeStop, IsOwnStop, comment_in, first_comment, times_in}
 use Rattle.gtd_hours_mended.specs.declared.comments.Stretch.{Stretch}
 use Rattle.gtd_hours_mended.specs.declared.making.MakeStop.{MakeStop}
 use Rattle.gtd_hours_mended.specs.declared.making.MakeStop.TheVariants as stop
-use Rattle.gtd_hours_mended.specs.declared.rule.MendedRule.{MendedRule}
 
 -- The rules so far, with those of the rules of the text that are left, are all; and so is a fault of one that is left.
 pub record AreJoined (text : List ℕ) (all : List HolidayRule) (comments : List Stretch) (forms : List TimeForm)

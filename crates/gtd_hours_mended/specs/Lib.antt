@@ -1,10 +1,4 @@
-pub mod Joining
-pub mod Selecting
-pub mod Days
-pub mod Years
-pub mod Times
 pub mod Comments
-pub mod Rules
 pub mod Making
 pub mod Mending
 pub mod Stops

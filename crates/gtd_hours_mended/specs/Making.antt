@@ -8,12 +8,12 @@ use Rattle.gtd_hours_moving.specs.Words.{stretch}
 use Rattle.gtd_hours_holiday_rules.specs.declared.rules.HolidayRule.{HolidayRule}
 use Rattle.gtd_hours_known.specs.Rules.{IsRuleFault}
 use Rattle.gtd_hours_times.specs.declared.moment.TimeForm.{TimeForm}
+use Rattle.gtd_hours_writing.specs.Rules.{first_times}
+use Rattle.gtd_hours_writing.specs.declared.rule.MendedRule.{MendedRule}
 use Rattle.gtd_hours_mended.specs.Comments.{no_comment}
-use Rattle.gtd_hours_mended.specs.Rules.{first_times}
 use Rattle.gtd_hours_mended.specs.declared.comments.Stretch.{Stretch}
 use Rattle.gtd_hours_mended.specs.declared.making.MakeStop.{MakeStop}
 use Rattle.gtd_hours_mended.specs.declared.making.MakeStop.TheVariants as stop
-use Rattle.gtd_hours_mended.specs.declared.rule.MendedRule.{MendedRule}
 
 abbrev pub first_comment : List Stretch → Stretch
 first_comment [] = no_comment

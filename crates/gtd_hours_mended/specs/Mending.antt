@@ -38,12 +38,12 @@ use Rattle.gtd_hours_options.specs.declared.fault.OptionsFault.TheVariants as wr
 use Rattle.gtd_hours_options.specs.declared.fault.OptionsReadFault.{OptionsReadFault}
 use Rattle.gtd_hours_options.specs.declared.fault.OptionsReadFault.TheVariants as reading
 use Rattle.gtd_hours_options.specs.declared.options.Options.{Options}
+use Rattle.gtd_hours_writing.specs.Rules.{rules_text}
+use Rattle.gtd_hours_writing.specs.declared.rule.MendedRule.{MendedRule}
 use Rattle.gtd_hours_mended.specs.Comments.{comments_of}
 use Rattle.gtd_hours_mended.specs.Making.{AreMade}
-use Rattle.gtd_hours_mended.specs.Rules.{rules_text}
 use Rattle.gtd_hours_mended.specs.declared.making.MakeStop.{MakeStop}
 use Rattle.gtd_hours_mended.specs.declared.making.MakeStop.TheVariants as make
-use Rattle.gtd_hours_mended.specs.declared.rule.MendedRule.{MendedRule}
 
 -- ---- what refuses a text
 

@@ -4,21 +4,12 @@
 //! fallback rules, points of time, open ends or events of the sun is cut into its rules, and each is written part by part.
 #![tactic(auto)]
 
-mod classes;
 mod comments;
-mod copies;
-mod days;
-mod joining;
 pub mod laws;
 mod making;
 mod mender;
-mod rule;
-mod rules;
-mod selectors;
 mod sound;
-mod times;
 mod written;
-mod years;
 
 pub use mender::mended_hours;
 pub use written::mended_as_written;

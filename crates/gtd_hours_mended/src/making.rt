@@ -7,15 +7,13 @@ ghost use Rattle.gtd_hours_mended.specs.Making.{times_in};
 ghost use Rattle.gtd_hours_text.specs.Standing.{StandsFor};
 
 use crate::comments::{Stretch, no_comment};
-use crate::copies::{behind, copy_of, first_of};
-use crate::rule::MendedRule;
-use crate::rules::first_times;
 use gtd_hours::Hours;
 use gtd_hours_grammar::HoursFault;
 use gtd_hours_holiday_rules::HolidayRule;
 use gtd_hours_moments::TimeForm;
 use gtd_hours_moving::stretch;
 use gtd_hours_text::{HoursTextFault, read_hours};
+use gtd_hours_writing::{MendedRule, behind, copy_of, first_of, first_times};
 use std::alloc::{AllocError, Global};
 
 /// Why rules are not made.

@@ -6,7 +6,6 @@ ghost use Rattle.gtd_hours_options.specs.declared.fault.OptionsReadFault.TheVari
 ghost use Rattle.gtd_hours_mended.specs.Mending.{IsFormStop, IsMendStop, IsMendedForm, IsMendedText, IsOtherStop, IsOtherText};
 ghost use Rattle.gtd_hours_options.specs.Manners.{no_form, placed, placed_fault};
 
-use crate::copies::copy_of;
 use crate::written::mended_as_written;
 use gtd_hours::{Hours, print_hours};
 use gtd_hours_known::{placed_fault as placed_known, token_fault};
@@ -16,6 +15,7 @@ use gtd_hours_loose::{
 use gtd_hours_loose_tokens::{DayNames, LooseStop};
 use gtd_hours_moments::Need;
 use gtd_hours_options::{OptionsFault, OptionsReadFault};
+use gtd_hours_writing::copy_of;
 use std::alloc::{AllocError, Global};
 
 // Plain hours, as they are written.

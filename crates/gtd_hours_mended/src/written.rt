@@ -9,7 +9,6 @@ ghost use Rattle.gtd_hours_mended.specs.Stops.{no_items, no_moments, no_rules};
 
 use crate::comments::comments_of;
 use crate::making::{MakeStop, made_rules};
-use crate::rules::rules_text;
 use crate::sound::check_sound;
 use gtd_hours_grammar::{FaultKind, HoursFault};
 use gtd_hours_holiday_rules::{Part, parts_of, rules_of};
@@ -18,6 +17,7 @@ use gtd_hours_known::KnownFault;
 use gtd_hours_moments::{NoMomentText, TimeForm, moment_text};
 use gtd_hours_options::{OptionsFault, OptionsReadFault};
 use gtd_hours_tokens::Token;
+use gtd_hours_writing::rules_text;
 use std::alloc::Global;
 
 // The text of rules with these parts and forms of times.

@@ -1,9 +1,9 @@
 -- One rule more has come; in the end all have.
 use Rattle.std.proofs.Common.{◌∙◌, ap, subst, sym, drop, ℕ, List}
+use Rattle.gtd_hours_writing.specs.declared.rule.MendedRule.{MendedRule}
 use Rattle.gtd_hours_mended.proofs.MakingFacts.{AreJoined, all_joined, more_joined, no_rules}
 use Rattle.gtd_hours_mended.specs.Making.{IsMade, comment_in}
 use Rattle.gtd_hours_mended.specs.declared.comments.Stretch.{Stretch}
-use Rattle.gtd_hours_mended.specs.declared.rule.MendedRule.{MendedRule}
 use Rattle.gtd_hours_mended.proofs.making.made_rules.Goals as goal
 
 pub loop-from-preserved : goal.loop-from-preserved
