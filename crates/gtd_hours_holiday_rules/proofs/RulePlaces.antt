@@ -16,8 +16,8 @@ use Rattle.gtd_hours_days.specs.declared.listed.EasterDays.{EasterDays}
 use Rattle.gtd_hours_days.specs.declared.listed.Listed.{Listed}
 use Rattle.gtd_hours_items.specs.declared.items.Item.{Item}
 use Rattle.gtd_hours_holiday_rules.specs.declared.parts.Part.{Part}
-use Rattle.gtd_hours_holiday_rules.specs.declared.role.Role.{Role}
-use Rattle.gtd_hours_holiday_rules.specs.declared.role.Role.TheVariants as role
+use Rattle.gtd_hours_roles.specs.declared.role.Role.{Role}
+use Rattle.gtd_hours_roles.specs.declared.role.Role.TheVariants as role
 use Rattle.gtd_hours_holiday_rules.specs.declared.text.HolidayText.{HolidayText}
 use Rattle.gtd_hours_moving.specs.Words.{stretch}
 

@@ -5,8 +5,8 @@ use Rattle.std.specs.Char.{is_ascii_alphabetic}
 use Rattle.gtd_hours_moving.specs.Words.{stretch}
 use Rattle.gtd_hours_items.specs.declared.items.Item.{Item}
 use Rattle.gtd_hours_holiday_rules.specs.declared.parts.Part.{Part}
-use Rattle.gtd_hours_holiday_rules.specs.declared.role.Role.{Role}
-use Rattle.gtd_hours_holiday_rules.specs.declared.role.Role.TheVariants as role
+use Rattle.gtd_hours_roles.specs.declared.role.Role.{Role}
+use Rattle.gtd_hours_roles.specs.declared.role.Role.TheVariants as role
 
 -- the first byte, or a space (32)
 abbrev pub first_or_space : List ℕ → ℕ

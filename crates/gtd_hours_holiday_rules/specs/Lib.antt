@@ -1,5 +1,3 @@
-pub mod Behind
-pub mod Roles
 pub mod Told
 pub mod Parts
 pub mod Checked

@@ -1,12 +1,12 @@
 -- The items of a text from left to right, with what becomes of each.
 use Rattle.std.specs.Prelude.{ℕ, List, [], ◌∷◌, ◌++◌, Option, Some, None}
 use Rattle.gtd_hours_items.specs.declared.items.Item.{Item}
-use Rattle.gtd_hours_holiday_rules.specs.declared.behind.Position.{Position}
+use Rattle.gtd_hours_roles.specs.declared.behind.Position.{Position}
 use Rattle.gtd_hours_holiday_rules.specs.declared.parts.Part.{Part}
 use Rattle.gtd_hours_holiday_rules.specs.declared.told.Instead.{Instead}
 use Rattle.gtd_hours_holiday_rules.specs.declared.told.Told.{Told}
-use Rattle.gtd_hours_holiday_rules.specs.Behind.{after, front}
-use Rattle.gtd_hours_holiday_rules.specs.Roles.{role_of}
+use Rattle.gtd_hours_roles.specs.Behind.{after, front}
+use Rattle.gtd_hours_roles.specs.Roles.{role_of}
 use Rattle.gtd_hours_holiday_rules.specs.Told.{instead_of, told_at}
 
 -- An item at a position, where these come behind it.

@@ -8,19 +8,19 @@ use Rattle.gtd_hours_tokens.specs.declared.token.TokenKind.TheVariants as kind
 use Rattle.gtd_hours_items.specs.declared.items.Item.{Item}
 use Rattle.gtd_hours_items.specs.declared.items.What.{What}
 use Rattle.gtd_hours_items.specs.declared.items.What.TheVariants as what
-use Rattle.gtd_hours_holiday_rules.specs.declared.behind.Behind.{Behind}
-use Rattle.gtd_hours_holiday_rules.specs.declared.behind.Behind.TheVariants as behind
-use Rattle.gtd_hours_holiday_rules.specs.declared.behind.Last.{Last}
-use Rattle.gtd_hours_holiday_rules.specs.declared.behind.Last.TheVariants as last
-use Rattle.gtd_hours_holiday_rules.specs.declared.behind.Position.{Position}
-use Rattle.gtd_hours_holiday_rules.specs.declared.role.Role.{Role}
-use Rattle.gtd_hours_holiday_rules.specs.declared.role.Role.TheVariants as role
+use Rattle.gtd_hours_roles.specs.declared.behind.Behind.{Behind}
+use Rattle.gtd_hours_roles.specs.declared.behind.Behind.TheVariants as behind
+use Rattle.gtd_hours_roles.specs.declared.behind.Last.{Last}
+use Rattle.gtd_hours_roles.specs.declared.behind.Last.TheVariants as last
+use Rattle.gtd_hours_roles.specs.declared.behind.Position.{Position}
+use Rattle.gtd_hours_roles.specs.declared.role.Role.{Role}
+use Rattle.gtd_hours_roles.specs.declared.role.Role.TheVariants as role
 use Rattle.gtd_hours_holiday_rules.specs.declared.told.HolidayFault.{HolidayFault}
 use Rattle.gtd_hours_holiday_rules.specs.declared.told.HolidayFault.TheVariants as holiday_fault
 use Rattle.gtd_hours_holiday_rules.specs.declared.told.Instead.{Instead}
 use Rattle.gtd_hours_holiday_rules.specs.declared.told.Instead.TheVariants as instead
 use Rattle.gtd_hours_holiday_rules.specs.declared.told.Told.{Told}
-use Rattle.gtd_hours_holiday_rules.specs.Behind.{is_commented}
+use Rattle.gtd_hours_roles.specs.Behind.{is_commented}
 use Rattle.gtd_hours_items.specs.Coming.{begins, is_weekday}
 
 abbrev pub is_day : What → Bool

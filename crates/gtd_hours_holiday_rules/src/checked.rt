@@ -5,9 +5,9 @@ ghost use Rattle.gtd_hours_holiday_rules.specs.Checked.{byte_before, checked_fro
 ghost use Rattle.gtd_hours_holiday_rules.specs.Checked.{first_or_space, form_of, form_place, put_over, written_over};
 
 use crate::parts::Part;
-use crate::role::Role;
 use gtd_hours_items::Item;
 use gtd_hours_moving::stretch;
+use gtd_hours_roles::Role;
 use std::alloc::{AllocError, Global};
 
 fn put_byte(bytes: &mut [u8], place: usize, byte: u8)

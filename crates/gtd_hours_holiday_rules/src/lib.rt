@@ -5,12 +5,9 @@
 //! of it, and into one text of plain hours of the same length, which has a fault exactly where the text has one.
 #![tactic(auto)]
 
-mod behind;
 mod checked;
 pub mod laws;
 mod parts;
-mod role;
-mod roles;
 mod rules;
 mod text;
 mod told;
@@ -18,7 +15,6 @@ mod whole_days;
 
 pub use gtd_hours_items::NoHolidayText;
 pub use parts::{Part, parts_of};
-pub use role::Role;
 pub use rules::{HolidayRule, before_holiday, link_behind, rules_of};
 pub use text::{HolidayText, holiday_text};
 pub use told::{HolidayFault, Instead, Told, told_fault};

@@ -3,11 +3,9 @@
 ghost use Rattle.std.specs.Prelude.{◌≡◌, ◌++◌, IfOk, OnOk};
 ghost use Rattle.gtd_hours_holiday_rules.specs.Parts.{part_at, parts_of, told_by, told_of};
 
-use crate::behind::{Position, after, front};
-use crate::role::Role;
-use crate::roles::role_of;
 use crate::told::{Instead, Told, instead_of, told_at};
 use gtd_hours_items::Item;
+use gtd_hours_roles::{Position, Role, after, front, role_of};
 use std::alloc::{AllocError, Global};
 
 /// An item, with what becomes of it.

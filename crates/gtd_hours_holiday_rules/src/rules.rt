@@ -7,12 +7,12 @@ ghost use Rattle.gtd_hours_holiday_rules.specs.Rules.{with_item, with_month_day,
 ghost use Rattle.gtd_hours_holiday_rules.specs.declared.parts.Part.{Part};
 
 use crate::parts::Part;
-use crate::role::Role;
 use gtd_hours::{Link, Selector};
 use gtd_hours_dated::MonthItem;
 use gtd_hours_days::{EasterDays, Listed};
 use gtd_hours_items::Item;
 use gtd_hours_moving::stretch;
+use gtd_hours_roles::Role;
 use std::alloc::{AllocError, Global};
 use std::mem::replace;
 

@@ -8,10 +8,9 @@ ghost use Rattle.gtd_hours_holiday_rules.specs.Told.{is_count, is_foreign};
 ghost use Rattle.gtd_hours_holiday_rules.specs.Told.{is_misfit, is_sign, kind_among, led_instead, misfit_fault, misfit_kind};
 ghost use Rattle.gtd_hours_holiday_rules.specs.Told.{plus_kind, sign_fault, told_at, told_fault, unfit_fault, unread_instead};
 
-use crate::behind::{Behind, Last, Position, is_commented};
-use crate::role::Role;
 use gtd_hours_grammar::{FaultKind, HoursFault};
 use gtd_hours_items::{Item, What, begins_weekday, is_weekday};
+use gtd_hours_roles::{Behind, Last, Position, Role, is_commented};
 use gtd_hours_tokens::TokenKind;
 use thiserror::Error;
 

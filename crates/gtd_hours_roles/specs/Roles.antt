@@ -8,14 +8,14 @@ use Rattle.gtd_hours_tokens.specs.declared.token.TokenKind.TheVariants as kind
 use Rattle.gtd_hours_items.specs.declared.items.Item.{Item}
 use Rattle.gtd_hours_items.specs.declared.items.What.{What}
 use Rattle.gtd_hours_items.specs.declared.items.What.TheVariants as what
-use Rattle.gtd_hours_holiday_rules.specs.declared.behind.Behind.{Behind}
-use Rattle.gtd_hours_holiday_rules.specs.declared.behind.Behind.TheVariants as behind
-use Rattle.gtd_hours_holiday_rules.specs.declared.behind.Last.{Last}
-use Rattle.gtd_hours_holiday_rules.specs.declared.behind.Last.TheVariants as last
-use Rattle.gtd_hours_holiday_rules.specs.declared.behind.Position.{Position}
-use Rattle.gtd_hours_holiday_rules.specs.declared.role.Role.{Role}
-use Rattle.gtd_hours_holiday_rules.specs.declared.role.Role.TheVariants as role
-use Rattle.gtd_hours_holiday_rules.specs.Behind.{is_commented, is_faulty}
+use Rattle.gtd_hours_roles.specs.declared.behind.Behind.{Behind}
+use Rattle.gtd_hours_roles.specs.declared.behind.Behind.TheVariants as behind
+use Rattle.gtd_hours_roles.specs.declared.behind.Last.{Last}
+use Rattle.gtd_hours_roles.specs.declared.behind.Last.TheVariants as last
+use Rattle.gtd_hours_roles.specs.declared.behind.Position.{Position}
+use Rattle.gtd_hours_roles.specs.declared.role.Role.{Role}
+use Rattle.gtd_hours_roles.specs.declared.role.Role.TheVariants as role
+use Rattle.gtd_hours_roles.specs.Behind.{is_commented, is_faulty}
 use Rattle.gtd_hours_items.specs.Coming.{begins, begins_date, begins_month_days, is_bracket, is_dates, is_holiday}
 use Rattle.gtd_hours_items.specs.Coming.{is_month, is_number, is_time, is_weekday, is_year, leads, places}
 

@@ -1,10 +1,10 @@
 //! What stands behind the items of a text, and what becomes of the next one there.
 
 ghost use Rattle.std.specs.Prelude.{◌≡◌};
-ghost use Rattle.gtd_hours_holiday_rules.specs.Behind.{after, after_close, after_colon, after_dated, after_leading, after_listed};
-ghost use Rattle.gtd_hours_holiday_rules.specs.Behind.{after_month, after_number, after_open, after_token, after_weekday};
-ghost use Rattle.gtd_hours_holiday_rules.specs.Behind.{after_what, behind_after, front, is_commented, is_faulty, last_holiday};
-ghost use Rattle.gtd_hours_holiday_rules.specs.Behind.{last_easter, last_of, last_token};
+ghost use Rattle.gtd_hours_roles.specs.Behind.{after, after_close, after_colon, after_dated, after_leading, after_listed};
+ghost use Rattle.gtd_hours_roles.specs.Behind.{after_month, after_number, after_open, after_token, after_weekday};
+ghost use Rattle.gtd_hours_roles.specs.Behind.{after_what, behind_after, front, is_commented, is_faulty, last_holiday};
+ghost use Rattle.gtd_hours_roles.specs.Behind.{last_easter, last_of, last_token};
 
 use crate::role::Role;
 use gtd_hours_days::{EasterDays, Listed};

@@ -9,13 +9,13 @@ use Rattle.gtd_hours_tokens.specs.declared.token.TokenKind.TheVariants as kind
 use Rattle.gtd_hours_items.specs.declared.items.Item.{Item}
 use Rattle.gtd_hours_items.specs.declared.items.What.{What}
 use Rattle.gtd_hours_items.specs.declared.items.What.TheVariants as what
-use Rattle.gtd_hours_holiday_rules.specs.declared.behind.Behind.{Behind}
-use Rattle.gtd_hours_holiday_rules.specs.declared.behind.Behind.TheVariants as behind
-use Rattle.gtd_hours_holiday_rules.specs.declared.behind.Last.{Last}
-use Rattle.gtd_hours_holiday_rules.specs.declared.behind.Last.TheVariants as last
-use Rattle.gtd_hours_holiday_rules.specs.declared.behind.Position.{Position}
-use Rattle.gtd_hours_holiday_rules.specs.declared.role.Role.{Role}
-use Rattle.gtd_hours_holiday_rules.specs.declared.role.Role.TheVariants as role
+use Rattle.gtd_hours_roles.specs.declared.behind.Behind.{Behind}
+use Rattle.gtd_hours_roles.specs.declared.behind.Behind.TheVariants as behind
+use Rattle.gtd_hours_roles.specs.declared.behind.Last.{Last}
+use Rattle.gtd_hours_roles.specs.declared.behind.Last.TheVariants as last
+use Rattle.gtd_hours_roles.specs.declared.behind.Position.{Position}
+use Rattle.gtd_hours_roles.specs.declared.role.Role.{Role}
+use Rattle.gtd_hours_roles.specs.declared.role.Role.TheVariants as role
 
 -- a comment that says something of its rule
 abbrev pub is_commented : Behind → Bool

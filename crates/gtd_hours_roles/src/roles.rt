@@ -1,11 +1,11 @@
 //! What becomes of an item, by what stands behind and before it.
 
 ghost use Rattle.std.specs.Prelude.{◌≡◌};
-ghost use Rattle.gtd_hours_holiday_rules.specs.Roles.{begun_role, bracket_role, colon_role, comma_role, comment_role, dash_role};
-ghost use Rattle.gtd_hours_holiday_rules.specs.Roles.{dates_comma, dates_go_on, days_comma, easter_role, every_role, first_role};
-ghost use Rattle.gtd_hours_holiday_rules.specs.Roles.{holiday_role, joined_role, kept_if, month_role, number_role, remark_role};
-ghost use Rattle.gtd_hours_holiday_rules.specs.Roles.{role_in, role_of, separates, sign_role, takes_year, token_role};
-ghost use Rattle.gtd_hours_holiday_rules.specs.Roles.{weekday_role};
+ghost use Rattle.gtd_hours_roles.specs.Roles.{begun_role, bracket_role, colon_role, comma_role, comment_role, dash_role};
+ghost use Rattle.gtd_hours_roles.specs.Roles.{dates_comma, dates_go_on, days_comma, easter_role, every_role, first_role};
+ghost use Rattle.gtd_hours_roles.specs.Roles.{holiday_role, joined_role, kept_if, month_role, number_role, remark_role};
+ghost use Rattle.gtd_hours_roles.specs.Roles.{role_in, role_of, separates, sign_role, takes_year, token_role};
+ghost use Rattle.gtd_hours_roles.specs.Roles.{weekday_role};
 
 use crate::behind::{Behind, Last, Position, is_commented, is_faulty};
 use crate::role::Role;
