@@ -10,5 +10,5 @@ returns-clause-items c = record {
   are = c.in_ok-tokens.ensures.tokens;
   whole = c.in_ok-tokens.ensures.whole;
   made = subst (λ (l : List Token). AreItems c.args.text.now l c.in_ok-items.items.items) c.as_slice.ensures.value
-      c.in_ok-items.ensures;
+      c.in_ok-items.ensures.items;
 }
