@@ -430,6 +430,7 @@ def hours_texts(folder):
     yield case("times in rules that are off", "Mo ", "08:00-09:00,", "10:00-11:00 off; Mo 08:00-09:00")
     yield case("weekdays in rules that are off", "", "Mo,Tu[1],", "We off; Mo 08:00-09:00")
     yield case("dates in rules that are off", "", "Jan 1,Feb 2-3,", "Mar 3 off; Mo 08:00-09:00")
+    yield case("ranges that move in rules that are off", "", "Mar Su[-1]-Oct Su[1],", "Jan 1 off; Mo 08:00-09:00")
     yield case("years in rules that are off", "", "2025,2027-2029,", "2031 off; Mo 08:00-09:00")
     yield case("holidays", "", "PH,SH,PH +1 day,", "PH off; Mo 08:00-09:00", holidays)
     yield case("days of Easter", "", "easter,easter +1 day,", "easter off; Mo 08:00-09:00", holidays)
