@@ -1,7 +1,7 @@
 -- A text has one mended text at most, and then no fault.
 use mathlib.Core.HLevel.{is_prop→PathP}
 use Rattle.std.proofs.Common.{◌≡◌, ◌∙◌, ◌≤◌, sym, ap, subst, inl, inr, refl, ℕ, true, false, List, length}
-use Rattle.std.proofs.Common.{Some, None, Ok, Err}
+use Rattle.std.proofs.Common.{None}
 use Rattle.std.proofs.Props.{props}
 use Rattle.std.proofs.lemmas.Bool.{false≢true}
 use Rattle.gtd_hours.specs.Written.{hours_text}
@@ -29,16 +29,12 @@ use Rattle.gtd_hours_known.specs.declared.known.Known.{Known}
 use Rattle.gtd_hours_known.specs.declared.known.KnownHours.{KnownHours}
 use Rattle.gtd_hours_holiday_rules.specs.declared.rules.HolidayRule.{HolidayRule}
 use Rattle.gtd_hours_loose.specs.Reading.{IsLooseReading, IsReadFault}
-use Rattle.gtd_hours_loose.specs.StrictForms.{IsStrictForm}
 use Rattle.gtd_hours_loose.specs.declared.manner.Manner.TheVariants as manner
 use Rattle.gtd_hours_loose.specs.declared.reader.LooseFault.{LooseFault}
 use Rattle.gtd_hours_loose.specs.declared.reader.LooseHours.{LooseHours}
 use Rattle.gtd_hours_loose.specs.declared.reader.LooseReadFault.TheVariants as loose
-use Rattle.gtd_hours_loose.specs.declared.strict.StrictForm.{StrictForm}
 use Rattle.gtd_hours_loose.proofs.OneReading as loose_reading
 use Rattle.gtd_hours_loose_tokens.specs.declared.token.DayNames.{DayNames}
-use Rattle.gtd_hours_loose_tokens.specs.declared.token.LooseToken.{LooseToken}
-use Rattle.gtd_hours_loose_tokens.specs.declared.token.TokenFault.{TokenFault}
 use Rattle.gtd_hours_options.proofs.OneWay.{no_form, same_form_text}
 use Rattle.gtd_hours_options.specs.Reading.{IsOptionsFault, StandsWith}
 use Rattle.gtd_hours_options.specs.Readings.{AreReadInOneWay, HowRead}
