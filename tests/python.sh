@@ -14,7 +14,7 @@ for program in "$GTD" "$GTDESK"; do
 done
 [ -e "$LIBGTD" ] || "$top/bindings/build.sh" > /dev/null || { echo "no library at $LIBGTD" >&2; exit 1; }
 python=${PYTHON:-/usr/bin/python3}
-needed='import build, dask.dataframe, distributed, fiona, geopandas, mypy, osmium, pandas, pytest, setuptools, venv, wheel'
+needed='import build, cryptography, dask.dataframe, distributed, fiona, geopandas, mypy, osmium, pandas, pytest, setuptools, venv, wheel'
 { "$python" -c "$needed" && command -v openssl && command -v osmium; } > /dev/null 2>&1 ||
     "$top/tests/setup.sh" > /dev/null || {
     echo "Python's packages are missing, and tests/setup.sh failed" >&2
@@ -107,7 +107,7 @@ end
 
 start failures tests/test_failures.py
 failures=$!
-start country tests/test_country.py tests/test_diff.py tests/test_large.py tests/test_documents.py tests/test_osm.py
+start country tests/test_country.py tests/test_cluster.py tests/test_diff.py tests/test_large.py tests/test_documents.py tests/test_osm.py
 country=$!
 start package tests/test_domain.py tests/test_records.py tests/test_series.py tests/test_roads.py tests/test_blocks.py \
     tests/test_asked_domain.py tests/test_asked_records.py tests/test_planner.py tests/test_same.py

@@ -7,7 +7,7 @@
 #   mandoc           tests/packaging.sh lints the man pages
 #   zsh              tests/packaging.sh tries the completions; bash is already there
 #   fakeroot         tests/packaging.sh installs the package, if it is not run as root
-#   python3-pandas, python3-geopandas, python3-dask, python3-distributed
+#   python3-pandas, python3-geopandas, python3-dask, python3-distributed, python3-cryptography
 #                    what the Python package needs; tests/python.sh, bench/country.py
 #   python3-pyosmium, osmium-tool
 #                    what reads extracts of OpenStreetMap; tests/python.sh makes some
@@ -22,7 +22,7 @@
 # Run it as root, or as a user who may call sudo. tests/all.sh calls it where something is missing.
 set -eu
 packages=(gcc libc6-dev g++ binutils cargo valgrind pkgconf python3 mandoc zsh fakeroot
-    python3-pandas python3-geopandas python3-dask python3-distributed python3-pyosmium osmium-tool
+    python3-pandas python3-geopandas python3-dask python3-distributed python3-cryptography python3-pyosmium osmium-tool
     python3-pytest mypy python3-build python3-setuptools python3-wheel python3-venv openssl mount
     chromium librsvg2-bin libxml2-utils netpbm fonts-dejavu-core
     make sqlite3 libsqlite3-dev gdal-bin postgresql-15 postgresql-server-dev-15)

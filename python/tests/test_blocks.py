@@ -3,6 +3,7 @@ written."""
 
 import random
 
+import fsspec
 import numpy
 import pandas
 import pytest
@@ -101,6 +102,40 @@ def test_a_mark_that_is_not_in_front_belongs_to_the_header(front, tmp_path):
     for size in [7, 1000]:
         found = by_blocks(path, size)
         assert isinstance(found, gtd.Fault) and found.kind == "Header", found
+
+
+HEADER = HEADS[0] + "\n"
+
+
+def names_of(paths):
+    return [source.path for source in _files.sources([str(path) for path in paths])]
+
+
+def test_a_name_that_exists_is_no_pattern(tmp_path):
+    names = ["a1.csv", "a[1].csv", "b1.csv", "b?.csv", "c1.csv", "c*.csv"]
+    for name in names:
+        (tmp_path / name).write_text(HEADER)
+    paths = [str(tmp_path / name) for name in names]
+    assert names_of(paths) == paths
+    for pattern, stands_for in [("a?.csv", ["a1.csv"]), ("[bc]1.csv", ["b1.csv", "c1.csv"]), ("a*", ["a1.csv", "a[1].csv"])]:
+        assert names_of([tmp_path / pattern]) == [str(tmp_path / name) for name in stands_for]
+    with pytest.raises(FileNotFoundError, match="no file: .*d.*csv"):
+        names_of([tmp_path / "d*.csv"])
+
+
+def test_a_file_that_would_be_read_twice_is_refused(tmp_path):
+    (tmp_path / "a.csv").write_text(HEADER)
+    (tmp_path / "b.csv").symlink_to("a.csv")
+    (tmp_path / "c.csv").hardlink_to(tmp_path / "a.csv")
+    (tmp_path / "same as a.csv").write_text(HEADER)
+    for twice in [["a.csv", "a.csv"], ["a*", "a.csv"], ["a.csv", "b.csv"], ["c.csv", "a.csv"], ["*.csv"], ["a.csv", "./a.csv"]]:
+        with pytest.raises(ValueError, match="would be read twice"):
+            names_of([f"{tmp_path}/{name}" for name in twice])
+    assert len(names_of([tmp_path / "a.csv", tmp_path / "same as a.csv"])) == 2
+    for twice in ["memory://a.csv", "memory://*.csv"]:
+        fsspec.filesystem("memory").pipe("/a.csv", HEADER.encode())
+        with pytest.raises(ValueError, match="/a.csv would be read twice"):
+            names_of(["memory://a.csv", twice])
 
 
 def test_stretches():

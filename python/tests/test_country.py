@@ -226,6 +226,19 @@ def test_the_command(many, tmp_path):
     assert done.returncode == 3 and "none.csv" in done.stderr and done.stderr.count("\n") == 1
 
 
+def test_the_command_takes_names_with_brackets(many, tmp_path):
+    """A shell hands all names of ``*.csv`` on, and each is that file."""
+    for name, source in [("a1.csv", "a.csv"), ("a[1].csv", "b.csv"), ("a2.csv", "c.csv")]:
+        (tmp_path / name).write_bytes((many / source).read_bytes())
+    days = ["--from", FIRST, "--to", UNTIL, "--vehicle", VEHICLE, "--workers", 1, "--out"]
+    done = command(*sorted(tmp_path.glob("*.csv")), *days, tmp_path / "out")
+    assert (done.returncode, done.stdout) == (0, "") and done.stderr.startswith("20,000 rows, 1 files, ")
+    assert joined(tmp_path / "out") == by_hand([many / "plain.csv"], FIRST, UNTIL, VEHICLE, 65_536)
+    done = command(tmp_path / "a1.csv", tmp_path / "a?.csv", *days, tmp_path / "other")
+    assert (done.returncode, done.stdout, done.stderr.count("\n")) == (2, "", 1)
+    assert f"{tmp_path / 'a1.csv'} would be read twice" in done.stderr and not (tmp_path / "other").exists()
+
+
 def test_the_usage_of_the_command(many, tmp_path):
     days = ["--from", FIRST, "--to", UNTIL, "--vehicle", VEHICLE, "--out", tmp_path / "out"]
     for words in (

@@ -59,8 +59,9 @@ def schedule(
     Parameters
     ----------
     paths : str, os.PathLike or a list of them
-        Record files of any size, or patterns (``'data/*.csv'``), or addresses that ``fsspec`` knows. All workers and the
-        client must reach them by the same names. A file whose name ends in ``.gz`` is unpacked first, beside the output.
+        Record files of any size, or patterns (``'data/*.csv'``), or addresses that ``fsspec`` knows. A name that exists is
+        that file and no pattern. All workers and the client must reach them by the same names. A file whose name ends in
+        ``.gz`` is unpacked first, beside the output.
     first, until
         As in :func:`gtd.schedule`.
     vehicle : int or sequence of int
@@ -71,7 +72,7 @@ def schedule(
         ``vehicle-11.csv``... It must not exist yet, or be an empty folder. All workers and the client must reach it by the
         same name.
     client : distributed.Client, optional
-        The cluster. Without it, one is started on this machine, with a worker for each core.
+        The cluster. Without it, one is started on this machine, with a worker for each core, that nobody else can reach.
     joined : bool
         Write one file with one header for each vehicle type.
     block_size : int
@@ -98,6 +99,8 @@ def schedule(
         be written; or the scheduler has gone away (ConnectionError). Nothing is kept.
     RuntimeError
         A file was changed while it was read, or workers have different programs or libraries. Nothing is kept.
+    ValueError
+        A file would be read twice, or an option is out of its range. Nothing is read.
 
     Warns
     -----

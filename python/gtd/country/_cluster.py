@@ -11,19 +11,40 @@ import ssl
 import tempfile
 from multiprocessing import resource_tracker
 from pathlib import Path
-from typing import Iterator, Optional
+from typing import Any, Dict, Iterator, Optional
 
-from distributed import Client, LocalCluster
+from dask.system import CPU_COUNT
+from distributed import Client, Nanny, Scheduler, SpecCluster, Worker
 from distributed.security import Security
+from distributed.system import MEMORY_LIMIT
 
 from gtd._claims import remove, take
 
 _SCRATCH = "gtd-workers-"
+_LOOPBACK = "127.0.0.1"
+
+
+class _WithoutHttp:
+    """A process of a cluster without Dask's HTTP server, which answers whoever asks: no user of this machine has a secret for it."""
+
+    def start_http_server(self, *_: Any, **__: Any) -> None:
+        """Listen on no port."""
+
+
+class _Scheduler(_WithoutHttp, Scheduler):  # type: ignore[misc]
+    """The scheduler of a cluster on this machine."""
+
+
+class _Worker(_WithoutHttp, Worker):  # type: ignore[misc]
+    """A worker of a cluster on this machine."""
 
 
 @contextlib.contextmanager
 def local(workers: Optional[int] = None) -> Iterator[Client]:
     """A cluster on this machine, for as long as the context lasts.
+
+    Whoever reaches a scheduler can run code as its user. So all processes listen on the loopback address alone, and talk to
+    nobody who does not have the cluster's certificate, which is made anew each time and never leaves their memory.
 
     Parameters
     ----------
@@ -32,17 +53,29 @@ def local(workers: Optional[int] = None) -> Iterator[Client]:
     """
     with _scratch() as folder, contextlib.ExitStack() as stack:
         with _interrupts_put_off():
-            cluster = stack.enter_context(
-                LocalCluster(
-                    n_workers=workers,
-                    threads_per_worker=1,
-                    dashboard_address="127.0.0.1:0",
-                    local_directory=str(folder),
-                    silence_logs=logging.CRITICAL,  # what a worker meets is raised here
-                )
-            )
+            cluster = stack.enter_context(_started(workers or CPU_COUNT, folder))
             client = stack.enter_context(Client(cluster))
         yield client
+
+
+def _started(workers: int, folder: Path) -> SpecCluster:
+    """A cluster of so many workers, which put what they must put on the disk into a folder."""
+    security = Security.temporary()
+    common: Dict[str, Any] = {"host": _LOOPBACK, "protocol": "tls://", "security": security}
+    worker = {
+        **common,
+        "worker_class": _Worker,
+        "nthreads": 1,
+        "memory_limit": MEMORY_LIMIT // workers,
+        "local_directory": str(folder),
+        "silence_logs": logging.CRITICAL,  # what a worker meets is raised here
+    }
+    return SpecCluster(
+        scheduler={"cls": _Scheduler, "options": {**common, "port": 0, "dashboard": False}},
+        workers={number: {"cls": Nanny, "options": worker} for number in range(workers)},
+        security=security,
+        silence_logs=logging.CRITICAL,
+    )
 
 
 @contextlib.contextmanager

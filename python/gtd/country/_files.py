@@ -3,19 +3,21 @@
 from __future__ import annotations
 
 import gzip
+import os
 import re
 import shutil
 import zlib
 from dataclasses import dataclass
 from pathlib import Path
-from typing import Any, Callable, Dict, List, Optional, Tuple
+from typing import Any, Callable, Dict, Hashable, List, Optional, Tuple
 
-from fsspec.core import get_fs_token_paths
+from fsspec.core import url_to_fs
 from fsspec.implementations.local import LocalFileSystem
 from fsspec.utils import read_block
 
 from gtd._program import LARGEST_FILE
 
+_PATTERN = re.compile(r"[*?[]")
 _MARK = b"\xef\xbb\xbf"
 _HEAD = re.compile(rb"(?P<empty>[\r\n]*)(?P<head>[^\r\n]+(?:\r\n|\r(?!\Z)|\n))")
 
@@ -33,6 +35,14 @@ class Source:
     def is_packed(self) -> bool:
         """Whether its name says that gzip has packed it."""
         return self.path.endswith(".gz")
+
+    @property
+    def identity(self) -> Hashable:
+        """What all names of the file share: on this machine its inode, elsewhere its address."""
+        if isinstance(self.fs, LocalFileSystem):
+            status = os.stat(self.path)
+            return status.st_dev, status.st_ino
+        return self.fs, self.path
 
     def is_changed(self) -> bool:
         """Whether the file has changed since it was first looked at."""
@@ -88,20 +98,36 @@ class Block:
 
 
 def sources(paths: List[str], storage_options: Optional[Dict[str, Any]] = None) -> List[Source]:
-    """The input files, in the order given; a pattern stands for its files in the order of their names.
+    """The input files, in the order given.
+
+    A name that exists is that file, whatever its characters. Any other name with ``*``, ``?`` or ``[`` is a pattern, which
+    stands for its files in the order of their names.
 
     Raises
     ------
     FileNotFoundError
         There is none, or one of them does not exist.
+    ValueError
+        A file would be read twice.
     """
     found: List[Source] = []
     for path in paths:
-        fs, _, names = get_fs_token_paths([path], mode="rb", storage_options=storage_options)
+        fs, name = url_to_fs(path, **(storage_options or {}))
+        names = sorted(fs.glob(name)) if _PATTERN.search(name) and not fs.exists(name) else [name]
         if not names:
             raise FileNotFoundError(f"no file: {path}")
         found += [Source(fs, name, fs.ukey(name)) for name in names]
+    _check_once(found)
     return found
+
+
+def _check_once(found: List[Source]) -> None:
+    """Refuse a file with two names, since its rows would be read twice."""
+    names: Dict[Hashable, str] = {}
+    for source in found:
+        if source.identity in names:
+            raise ValueError(f"{source.path} would be read twice: it is the file {names[source.identity]}, which comes before it")
+        names[source.identity] = source.path
 
 
 def unpack(source: Source, into: Path) -> None:
