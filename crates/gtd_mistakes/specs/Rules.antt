@@ -10,8 +10,8 @@ use Rattle.gtd_core.specs.declared.domain.Op.{Op}
 use Rattle.gtd_core.specs.declared.domain.Op.TheVariants.{Union, Meet}
 use Rattle.gtd_core.specs.Ranges.{clock_seconds}
 use Rattle.gtd_core.specs.Trees.{Tree, Single, Joined}
-use Rattle.gtd_mistakes.specs.Shapes.{EndsAfterMidnight, EndsWithinDay, HasNoClock, HasNoDay, HasNoOtherDay, IsDaily}
-use Rattle.gtd_mistakes.specs.Shapes.{IsMonthAlone, Lasts, LastsClock, begin_of, days_of, months_of}
+use Rattle.gtd_mistakes.specs.Shapes.{EndsAfterMidnight, EndsWithinDay, HasNoClock, HasNoDay, HasNoOtherDay, HasOneTime}
+use Rattle.gtd_mistakes.specs.Shapes.{IsDaily, IsMonthAlone, Lasts, LastsClock, begin_of, days_of, months_of}
 use Rattle.gtd_mistakes.specs.declared.rule.Rule.{Rule}
 use Rattle.gtd_mistakes.specs.declared.rule.Rule.TheVariants as rule
 
@@ -57,17 +57,17 @@ IsMinutes start duration =
     ((start.year ≢ None) ⊎ (start.month ≢ None)) × HasNoClock start × LastsClock duration
     × (duration.hours ≡ 0) × (0 < duration.minutes) × (duration.seconds ≡ 0)
 
--- (h7){h9}: a time after midnight on each day, and hours, minutes and seconds that name a later time of the day, of at most
+-- (h7){h9}: one time after midnight on each day, and hours, minutes and seconds that name a later time of the day, of at most
 -- three hours more; and each stretch ends within its day
 abbrev pub IsEndAsDuration : StartParts → DurationParts → Type 0
 IsEndAsDuration start duration =
-    IsDaily start × LastsClock duration × (0 < begin_of start) × (begin_of start < clock_seconds duration)
-    × (clock_seconds duration ≤ begin_of start + 10_800) × (begin_of start + clock_seconds duration ≤ 86_400)
+    IsDaily start × HasOneTime start × LastsClock duration × (0 < begin_of start)
+    × (begin_of start < clock_seconds duration) × (clock_seconds duration ≤ begin_of start + 10_800) × (begin_of start + clock_seconds duration ≤ 86_400)
 
--- (h16){h18}: an hour, and hours, minutes and seconds that name a later time of the day; and each stretch ends after midnight
+-- (h16){h18}: an hour, at one time of the day, and hours, minutes and seconds that name a later time of the day; and each stretch ends after midnight
 abbrev pub IsEndPastMidnight : StartParts → DurationParts → Type 0
 IsEndPastMidnight start duration =
-    (start.hour ≢ None) × LastsClock duration × (begin_of start < clock_seconds duration)
+    (start.hour ≢ None) × HasOneTime start × LastsClock duration × (begin_of start < clock_seconds duration)
     × (clock_seconds duration < 86_400) × (86_400 < begin_of start + clock_seconds duration)
 
 -- one of the seven weekdays, as bits

@@ -1,5 +1,5 @@
 -- What starts and durations look like, as the rules speak of them.
-use Rattle.std.specs.Prelude.{◌≡◌, ◌≢◌, ◌<◌, ◌≤◌, ℕ, ◌+◌, ◌*◌, Option, Some, None}
+use Rattle.std.specs.Prelude.{◌≡◌, ◌≢◌, ◌⊎◌, ◌<◌, ◌≤◌, ℕ, ◌+◌, ◌*◌, Bool, ◌||◌, if◌then◌else◌, Option, Some, None, is_some}
 use Rattle.gtd_core.specs.declared.start.StartParts.{StartParts}
 use Rattle.gtd_core.specs.declared.duration.DurationParts.{DurationParts}
 use Rattle.gtd_core.specs.Ranges.{clock_seconds}
@@ -30,9 +30,24 @@ abbrev pub or_zero : Option ℕ → ℕ
 or_zero None = 0
 or_zero (Some n) = n
 
--- the second of the day at which the start's clock stands
+-- the first second of a day at which the start's clock stands
 abbrev pub begin_of : StartParts → ℕ
 begin_of start = 3600 * or_zero start.hour + 60 * or_zero start.minute + or_zero start.second
+
+-- a second is given only below a minute: from an hour on, the clock stands at one second of a day
+abbrev pub HasOneTime : StartParts → Type 0
+HasOneTime start = (start.second ≡ None) ⊎ (start.minute ≢ None)
+
+-- The number of a field. Where it is not given, any number will do above a finer field, up to the last one, and otherwise only 0.
+abbrev pub or_last : Option ℕ → Bool → ℕ → ℕ
+or_last None finer last = if finer then last else 0
+or_last (Some n) finer last = n
+
+-- the last second of a day at which the start's clock stands
+abbrev pub last_begin_of : StartParts → ℕ
+last_begin_of start =
+    3600 * or_last start.hour (is_some start.minute || is_some start.second) 23
+    + 60 * or_last start.minute (is_some start.second) 59 + or_zero start.second
 
 -- the years and months, in months; the weeks and days, in days
 abbrev pub months_of : DurationParts → ℕ
@@ -50,12 +65,12 @@ Lasts months days seconds duration =
 abbrev pub LastsClock : DurationParts → Type 0
 LastsClock duration = (months_of duration ≡ 0) × (days_of duration ≡ 0)
 
--- a stretch ends on the day of its beginning, at midnight at the latest
+-- each stretch ends on the day of its beginning, at midnight at the latest
 abbrev pub EndsWithinDay : StartParts → DurationParts → Type 0
 EndsWithinDay start duration =
-    (months_of duration ≡ 0) × (begin_of start + 86_400 * days_of duration + clock_seconds duration ≤ 86_400)
+    (months_of duration ≡ 0) × (last_begin_of start + 86_400 * days_of duration + clock_seconds duration ≤ 86_400)
 
--- a stretch of at most 24 hours ends after midnight
+-- each stretch, of at most 24 hours, ends after midnight
 abbrev pub EndsAfterMidnight : StartParts → DurationParts → Type 0
 EndsAfterMidnight start duration =
     LastsClock duration × (clock_seconds duration ≤ 86_400) × (86_400 < begin_of start + clock_seconds duration)

@@ -10,8 +10,8 @@ ghost use Rattle.gtd_mistakes.specs.Rules.{IsSundayToThursday, IsThirtyFirst, Is
 
 use crate::rule::Rule;
 use crate::shapes::{
-    DAY, begin_of, ends_within_day, has_no_clock, has_no_day, has_no_other_day, is_daily,
-    is_month_alone, lasts, lasts_clock,
+    DAY, begin_of, ends_within_day, has_no_clock, has_no_day, has_no_other_day, has_one_time,
+    is_daily, is_month_alone, lasts, lasts_clock,
 };
 use gtd_core::{Basic, Duration, StartParts};
 
@@ -103,6 +103,7 @@ fn is_end_as_duration(start: &StartParts, duration: &Duration) -> bool
     let begin = begin_of(start);
     let named = duration.clock();
     is_daily(start)
+        && has_one_time(start)
         && lasts_clock(duration)
         && 0 < begin
         && begin < named
@@ -116,6 +117,7 @@ fn is_end_past_midnight(start: &StartParts, duration: &Duration) -> bool
     let begin = begin_of(start);
     let named = duration.clock();
     start.hour.is_some()
+        && has_one_time(start)
         && lasts_clock(duration)
         && begin < named
         && named < DAY

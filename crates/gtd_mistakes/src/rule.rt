@@ -40,7 +40,7 @@ pub enum Rule {
     ThirtyFirst,
     /// `no-such-day`: a day that the month never has.
     NoSuchDay,
-    /// `never-holds`: no second at all. This rule and those after it hold of rows, and of no part of a domain.
+    /// `never-holds`: no second from 1901 on. This rule and those after it hold of rows, and of no part of a domain.
     NeverHolds,
     /// `always-holds`: each second.
     AlwaysHolds,

@@ -19,7 +19,7 @@ use std::alloc::AllocError;
 pub struct Part {
     /// How many basic domains of the domain stand before it.
     pub before: u32,
-    /// The second of the day at which its start's clock stands.
+    /// The first second of a day at which its start's clock stands.
     pub begin: u32,
     /// The hours, minutes and seconds of its duration, in seconds.
     pub clock: u32,
