@@ -281,6 +281,12 @@ def states(folder):
     yield desk(f"65,536 elements of {dated}", ["faults", "--warn", folder.elements("warned_year", [dated] * MOST_ROWS)])
     yield desk(f"65,536 elements of {dated}, over or not",
                ["faults", "--warn", "--at", DAY[0], folder.elements("warned_day", [dated] * MOST_ROWS)])
+    centuries = "+".join(f"(y{year}){{y100}}" for year in (2025, 2125, 2225, 2325, 2425, 2525, 2598))
+    ahead = f"[{centuries}]*[(s0){{s1}}]*[(s1){{s1}}]"
+    minutes = 674 * 365 * 24 * 60
+    for began in ("(y1950){d1}", "(y2025M7d2){d1}"):
+        yield desk(f"{began}, and nothing in each minute up to 2699", ["faults", "--warn", "--at", "2025-07-01",
+                   folder.file(f"warned_{began[2:6]}", f"{HEADER}1,both,0,{began}+{ahead}\n")], minutes, "minutes")
     hands = [(n // 16, n % 16) for n in range(MOST_ROWS)]
     text = HEADER + "".join(f"{element},both,0,(M5d1h{row}){{h1}}+(h{row}){{h1}}\n" for element, row in hands)
     yield desk("4,096 elements of 16 rows that hand over to one another",

@@ -2,9 +2,9 @@
 """`gtdesk faults --warn` against docs/WARNINGS.md: its tables, and a plain model of its rules.
 
 Each rule's row of the tables is told and the two close ones are not, with the words that the tables give. Then come random record
-files, whose warnings the model finds in the expressions of tests/model.py, by the conditions as the page says them, and in the
-seconds of 35 years: after 2025, the last year that a domain gives, the calendar of 28 years comes again and again until 2100.
-With `--allow` rules are turned off, and with `--at` some rows are over. Of the domains of docs/GALLERY.md and the files of
+files, whose warnings the model finds in the expressions of tests/model.py, by the conditions as the page says them, and in their
+seconds. Those of a domain without a year are taken from 35 years, in which the calendar of 28 years comes again; those of one that
+ends by its years from the years that it gives and the two after each, since no duration here is longer than a year. With `--allow` rules are turned off, and with `--at` some rows are over. Of the domains of docs/GALLERY.md and the files of
 examples/ none is warned of. Run it after `rt ci`, which builds the program.
 
 Usage: tests/warned.py [COUNT [SEED]]
@@ -23,8 +23,15 @@ from checks import Checks
 
 PAGE = os.path.join(same.TOP, "docs", "WARNINGS.md")
 AT = datetime.date(2025, 7, 1)
-FIRST, ASKED, LATER, END = (same.number(datetime.datetime.combine(day, datetime.time()))
-                            for day in (datetime.date(2020, 1, 1), AT, AT + datetime.timedelta(30), datetime.date(2055, 1, 1)))
+
+
+def midnight(day):
+    return same.number(datetime.datetime.combine(day, datetime.time()))
+
+
+EARLIEST, FIRST, ASKED, LATER, END = map(midnight, (datetime.date(1901, 1, 1), datetime.date(2020, 1, 1), AT,
+                                                    AT + datetime.timedelta(30), datetime.date(2055, 1, 1)))
+LAST_SURE_YEAR = 2598
 HEADER = "element,direction,vehicles,domain\n"
 NEEDED = 20
 # Domains whose words the gallery shows: one holds always, and one is easily mistaken.
@@ -79,7 +86,8 @@ class Basic:
         self.unit = unit
         self.months, self.days = 12 * unit["y"] + unit["M"], 7 * unit["w"] + unit["d"]
         self.clock = 3600 * unit["h"] + 60 * unit["m"] + unit["s"]
-        self.begin = sum(scale * sum(numbers(self.start, letter)) for letter, scale in (("h", 3600), ("m", 60), ("s", 1)))
+        clocks = model.clocks(self.start)
+        self.begin, self.last = min(clocks), max(clocks)
 
     def has(self, letters):
         return bool(self.letters & set(letters))
@@ -88,7 +96,10 @@ class Basic:
         return (self.months, self.days, self.clock) == (months, days, clock)
 
     def stays(self):
-        return self.months == 0 and self.begin + model.DAY * self.days + self.clock <= model.DAY
+        return self.months == 0 and self.last + model.DAY * self.days + self.clock <= model.DAY
+
+    def has_one_time(self):
+        return self.begin == self.last
 
     def only_clock(self):
         return self.months == 0 and self.days == 0
@@ -126,9 +137,9 @@ def of_basic(basic, whole):
         "sunday-and-monday": days_alone and b.weekdays == [1] and not b.has("hms") and b.is_for(days=2),
         "minutes": (b.has("yM") and not b.has("hms") and b.only_clock() and b.unit["m"] > 0
                     and b.unit["h"] == b.unit["s"] == 0),
-        "end-as-duration": (whole and b.is_daily() and b.only_clock() and 0 < b.begin < b.clock <= b.begin + 3 * 3600
+        "end-as-duration": (whole and b.is_daily() and b.has_one_time() and b.only_clock() and 0 < b.begin < b.clock <= b.begin + 3 * 3600
                             and b.stays()),
-        "end-past-midnight": (b.has("h") and b.only_clock() and b.begin < b.clock < model.DAY
+        "end-past-midnight": (b.has("h") and b.has_one_time() and b.only_clock() and b.begin < b.clock < model.DAY
                               and b.begin + b.clock > model.DAY),
         "weekday-on-date": bool(day) and day[0] <= 5 and len(b.weekdays) == 1,
         "days-of-year": (bool(year) and b.is_for(days=365 if leap(year[0]) else 366) and b.letters <= set("yMd")
@@ -192,26 +203,51 @@ def told(part, before=0, whole=True):
     return found
 
 
+def years(part):
+    """The years that the starts of an expression give."""
+    return set(numbers(part[1], "y")) if is_basic(part) else years(part[1]) | years(part[2])
+
+
+def ends_by_its_years(part):
+    if is_basic(part):
+        return any(year <= LAST_SURE_YEAR for year in years(part))
+    left, right = map(ends_by_its_years, part[1:])
+    return {"+": left and right, "*": left or right, "-": left}[part[0]]
+
+
 SPANS = {}
 
 
-def spans(part):
-    """The seconds of an expression in 35 years."""
-    if part not in SPANS:
+def spans(part, begin, end):
+    """The seconds of an expression between two."""
+    if (part, begin, end) not in SPANS:
         if is_basic(part):
-            made = same.merged(same.basic_spans(part[1], part[2], FIRST, END))
+            made = same.merged(same.basic_spans(part[1], part[2], begin, end))
         else:
-            made = same.joined(part[0], spans(part[1]), spans(part[2]))
-        clipped = [(max(begin, FIRST), min(end, END)) for begin, end in made]
-        SPANS[part] = [list(span) for span in clipped if span[0] < span[1]]
-    return SPANS[part]
+            made = same.joined(part[0], spans(part[1], begin, end), spans(part[2], begin, end))
+        clipped = [(max(first, begin), min(last, end)) for first, last in made]
+        SPANS[part, begin, end] = [list(span) for span in clipped if span[0] < span[1]]
+    return SPANS[part, begin, end]
+
+
+def near(year):
+    """The seconds from some days before a year to two years after it."""
+    return midnight(datetime.date(year, 1, 1)) - 10 * model.DAY, midnight(datetime.date(year + 3, 1, 1))
 
 
 def of_row(part, dated):
-    found = spans(part)
-    rules = ["never-holds"] if not found else ["always-holds"] if found == [[FIRST, END]] else []
+    given = years(part)
+    if given and not ends_by_its_years(part):
+        return []
+    if given:
+        ends = [span[1] for year in given for span in spans(part, *near(year))]
+        last = max(ends, default=EARLIEST)
+        rules = ["never-holds"] if last <= EARLIEST else []
+    else:
+        found = spans(part, FIRST, END)
+        last = END if found else EARLIEST
+        rules = ["never-holds"] if not found else ["always-holds"] if found == [[FIRST, END]] else []
     if dated:
-        last = found[-1][1] if found else FIRST
         rules += ["past"] if last <= ASKED else ["ends-soon"] if last <= LATER else []
     return rules
 
@@ -289,7 +325,8 @@ def expected(path, rows, off, dated):
 
 STARTS = ["M5", "M5h10", "M6h22", "y2025h7", "y2024", "y2023M1d1", "y2025M7d30", "y2025M6d30", "m30", "t1", "t2t6", "t1t2t3t4t5",
           "t2", "t7", "M4d1", "h7", "h16", "h22", "h6m30", "h23m59s30", "d1t2", "d13t6", "d31", "M2d30", "M2d29", "h0", "M7",
-          "f12", "l16", "w23", "y2025M7d31", "t1M5", "d5t3h8", "M4d31", "y2024t6"]
+          "f12", "l16", "w23", "y2025M7d31", "t1M5", "d5t3h8", "M4d31", "y2024t6", "M5d2h16s5", "y2025h23s5", "M5m30", "y2025M5s10",
+          "y2025m45", "y2025t2t6s5", "y2500M1d1", "y2598M12d31", "y2598w52", "y2599", "y2750", "y1850"]
 DURATIONS = ["d1", "h2", "h9", "d5", "d2", "m6", "m15", "h18", "h8", "h6", "M1", "M2", "d365", "d366", "y1", "h24", "s0", "m90",
              "w1", "h9m59", "m0s1", "d0h9", "h1m30s15", "M6"]
 

@@ -2,32 +2,25 @@
 use Rattle.std.proofs.Common.{◌≡◌, ◌∙◌, subst, ap, refl, inl, inr, ℕ, List, ◌++◌, Option, Some, None, Contains, append_assoc}
 use Rattle.std.proofs.Common.{arith}
 use Rattle.std.proofs.lemmas.Int.{ints}
-use Rattle.std.specs.Prelude.{MatchOption, ℤ}
+use Rattle.std.specs.Prelude.{MatchOption}
 use Rattle.gtd_core.specs.Trees.{Tree}
 use Rattle.gtd_core.specs.declared.horizon.Horizon.{Horizon}
-use Rattle.gtd_eval.specs.Extent.{IsLookedAt, IsTreeExtent, first_second}
-use Rattle.gtd_eval.specs.declared.extent.Extent.TheVariants.{Never, Sometimes, Always}
+use Rattle.gtd_eval.specs.Extent.{first_second}
 use Rattle.gtd_mistakes.specs.declared.rule.Rule.{Rule}
 use Rattle.gtd_mistakes.specs.declared.rule.Rule.TheVariants as rule
 use Rattle.gtd_mistakes.specs.declared.told.Told.{Told}
-use Rattle.gtd_warnings.specs.Days.{HoldsNever, HoldsOn, IsLater}
+use Rattle.gtd_warnings.specs.Days.{HoldsOn}
 use Rattle.gtd_warnings.specs.Extents.{HoldsThroughout}
+use Rattle.gtd_warnings.specs.Found.{IsFound}
 use Rattle.gtd_warnings.specs.RowsTold.{AreToldOnce, IsOnDay}
 
 module _ (tree : Tree) (days : Horizon) where
-  -- the expression contains some second, and some that is late enough, or there are no such days
-  pub no_rule : (HoldsNever tree days → ⊥) → ((late : Horizon) → IsLater days late → HoldsNever tree late → ⊥)
-      → (rule : Rule) → HoldsOn rule days tree → ⊥
-  no_rule some later rule.Past h = some h
-  no_rule some later rule.EndsSoon h = later h.1 h.2 h.3
-  no_rule some later other h = h
+  with_past : HoldsOn rule.Past days tree → (b : Rule) → HoldsOn b days tree → rule.Past ≡ b
+  with_past over rule.Past h = refl
+  with_past over rule.EndsSoon h = absurd (h.0 over)
+  with_past over other h = absurd h
 
-  with_past : HoldsNever tree days → (b : Rule) → HoldsOn b days tree → rule.Past ≡ b
-  with_past never rule.Past h = refl
-  with_past never rule.EndsSoon h = absurd (h.0 never)
-  with_past never other h = absurd h
-
-  with_soon : (HoldsNever tree days → ⊥) → (b : Rule) → HoldsOn b days tree → rule.EndsSoon ≡ b
+  with_soon : (HoldsOn rule.Past days tree → ⊥) → (b : Rule) → HoldsOn b days tree → rule.EndsSoon ≡ b
   with_soon some rule.Past h = absurd (some h)
   with_soon some rule.EndsSoon h = refl
   with_soon some other h = absurd h
@@ -43,20 +36,14 @@ pub one_on_day : (tree : Tree) (days : Option Horizon) (a b : Rule) → IsOnDay 
 one_on_day tree None a b h k = absurd h
 one_on_day tree (Some days) a b h k = one_rule tree days a b h k
 
--- an expression that contains some second, but not all, neither never nor always holds
-pub none_throughout : (tree : Tree) → IsTreeExtent tree Sometimes → (rule : Rule) → HoldsThroughout tree rule → ⊥
-none_throughout tree some rule.NeverHolds h = h some.0.0 some.0.1 some.0.2
-none_throughout tree some rule.AlwaysHolds h = some.1.2 (h some.1.0 some.1.1)
-none_throughout tree some other h = h
-
-module _ (tree : Tree) (t : ℤ) (looked : IsLookedAt tree t) where
-  never_alone : IsTreeExtent tree Never → (b : Rule) → HoldsThroughout tree b → rule.NeverHolds ≡ b
+module _ (tree : Tree) where
+  never_alone : HoldsThroughout tree rule.NeverHolds → (b : Rule) → HoldsThroughout tree b → rule.NeverHolds ≡ b
   never_alone never rule.NeverHolds k = refl
-  never_alone never rule.AlwaysHolds k = absurd (never t looked (k t looked))
+  never_alone never rule.AlwaysHolds k = absurd (never.1 first_second (omega (arith, ints)) (k.1 first_second))
   never_alone never other k = absurd k
 
-  always_alone : IsTreeExtent tree Always → (b : Rule) → HoldsThroughout tree b → rule.AlwaysHolds ≡ b
-  always_alone always rule.NeverHolds k = absurd (k t looked (always t looked))
+  always_alone : HoldsThroughout tree rule.AlwaysHolds → (b : Rule) → HoldsThroughout tree b → rule.AlwaysHolds ≡ b
+  always_alone always rule.NeverHolds k = absurd (k.1 first_second (omega (arith, ints)) (always.1 first_second))
   always_alone always rule.AlwaysHolds k = refl
   always_alone always other k = absurd k
 
@@ -64,6 +51,14 @@ module _ (tree : Tree) (t : ℤ) (looked : IsLookedAt tree t) where
   one_throughout rule.NeverHolds b h k = never_alone h b k
   one_throughout rule.AlwaysHolds b h k = always_alone h b k
   one_throughout other b h k = absurd h
+
+  -- where `never-holds` was not found, it does not hold
+  pub not_never : (found : Option Rule) → IsFound (HoldsThroughout tree) found → (found ≡ Some rule.NeverHolds → ⊥)
+      → HoldsThroughout tree rule.NeverHolds → ⊥
+  not_never None none other h = none rule.NeverHolds h
+  not_never (Some found) holds other h =
+      let same : found ≡ rule.NeverHolds = one_throughout found rule.NeverHolds holds h in
+      other (ap (λ (r : Rule). Some r) same)
 
 module _ (row : ℕ) (off : List Rule) (tree : Tree) (Holds : Rule → Type 0)
     (one : (a b : Rule) → Holds a → Holds b → a ≡ b) where
@@ -80,15 +75,11 @@ module _ (row : ℕ) (off : List Rule) (tree : Tree) (Holds : Rule → Type 0)
   told_as_found (Some found) holds told (inr is) =
       inr ((λ rule also. subst (λ (r : Rule). Contains off r) (one found rule holds also) (is.0 found refl)), is.1)
 
--- some second is looked at
-pub looked_at : (tree : Tree) → IsLookedAt tree first_second
-looked_at tree years = (omega (arith, ints), omega (arith, ints))
-
 pub throughout : (row : ℕ) (off : List Rule) (tree : Tree) (found : Option Rule)
     → MatchOption found ((rule : Rule) → HoldsThroughout tree rule → ⊥) (HoldsThroughout tree) → (told : List Told)
     → AreToldOnce row off (λ rule. found ≡ Some rule) tree told → AreToldOnce row off (HoldsThroughout tree) tree told
 throughout row off tree found is told are =
-    told_as_found row off tree (HoldsThroughout tree) (one_throughout tree first_second (looked_at tree)) found is told are
+    told_as_found row off tree (HoldsThroughout tree) (one_throughout tree) found is told are
 
 pub on_day : (row : ℕ) (off : List Rule) (tree : Tree) (days : Option Horizon) (found : Option Rule)
     → MatchOption found ((rule : Rule) → IsOnDay days tree rule → ⊥) (IsOnDay days tree) → (told : List Told)

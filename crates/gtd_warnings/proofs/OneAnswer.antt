@@ -13,14 +13,13 @@ use Rattle.gtd_mistakes.specs.Told.{AreToldAt, AreToldOf, told_at}
 use Rattle.gtd_mistakes.specs.declared.rule.TheConstants.{RULES}
 use Rattle.gtd_mistakes.specs.declared.rule.Rule.{Rule}
 use Rattle.gtd_mistakes.specs.declared.told.Told.{Told}
-use Rattle.gtd_warnings.proofs.DayFacts.{looked_at, one_on_day, one_throughout}
+use Rattle.gtd_warnings.proofs.DayFacts.{one_on_day, one_throughout}
 use Rattle.gtd_warnings.specs.Codes.{AreLoneBelow, AreLoneOfFile, AreLoneOfRows, AreLoneOfTable, codes_named}
 use Rattle.gtd_warnings.specs.Extents.{HoldsThroughout}
 use Rattle.gtd_warnings.specs.RowsTold.{AreToldOfFile, AreToldOfRow, AreToldOfRows, AreToldOfTable, AreToldOnce, IsDomainOf}
 use Rattle.gtd_warnings.specs.RowsTold.{IsOnDay, IsToldOfRow}
 use Rattle.gtd_warnings.specs.declared.codes.LoneCode.{LoneCode}
 use Rattle.gtd_warnings.specs.declared.file.Asked.{Asked}
-use Rattle.gtd_eval.specs.Extent.{first_second}
 
 joined : (a b c d : List Told) → a ≡ b → c ≡ d → a ++ c ≡ b ++ d
 joined a b c d e f = ap (λ (l : List Told). l ++ c) e ∙ ap (λ (l : List Told). b ++ l) f
@@ -79,7 +78,7 @@ module _ (asked : Asked) where
   of_domain row (Some tree) a b is same =
       let off = asked.off.items in
       let first = of_part row off true 0 tree is.0 same.0 is.3 same.3 in
-      let second = told_once row off tree (HoldsThroughout tree) (one_throughout tree first_second (looked_at tree)) is.1 same.1
+      let second = told_once row off tree (HoldsThroughout tree) (one_throughout tree) is.1 same.1
       is.4 same.4 in
       let third = told_once row off tree (IsOnDay asked.days tree) (one_on_day tree asked.days) is.2 same.2 is.5 same.5 in
       is.6 ∙ joined (is.0 ++ is.1) (same.0 ++ same.1) is.2 same.2 (joined is.0 same.0 is.1 same.1 first second) third

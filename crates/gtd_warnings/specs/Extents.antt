@@ -1,12 +1,14 @@
 -- Domains that never or always hold.
+use Rattle.std.specs.Prelude.{ℤ}
 use Rattle.gtd_core.specs.Trees.{Tree}
-use Rattle.gtd_eval.specs.Extent.{IsTreeExtent}
-use Rattle.gtd_eval.specs.declared.extent.Extent.TheVariants.{Never, Always}
+use Rattle.gtd_eval.specs.Extent.{first_second}
+use Rattle.gtd_eval.specs.Membership.{InTree, SomeGivesYear}
 use Rattle.gtd_mistakes.specs.declared.rule.Rule.{Rule}
 use Rattle.gtd_mistakes.specs.declared.rule.Rule.TheVariants as rule
+use Rattle.gtd_warnings.specs.Over.{IsOver}
 
--- The rule holds of an expression: it contains no second, or each one, of those that `gtd_eval` looks at.
+-- The rule holds of an expression: it is over by 1901-01-01, for ever; or no start gives a year, and it contains each second.
 abbrev pub HoldsThroughout : Tree → Rule → Type 0
-HoldsThroughout tree rule.NeverHolds = IsTreeExtent tree Never
-HoldsThroughout tree rule.AlwaysHolds = IsTreeExtent tree Always
+HoldsThroughout tree rule.NeverHolds = IsOver tree first_second
+HoldsThroughout tree rule.AlwaysHolds = (SomeGivesYear tree → ⊥) × ((t : ℤ) → InTree tree t)
 HoldsThroughout tree rule = ⊥

@@ -1,7 +1,11 @@
 pub mod Codes
 pub mod Days
+pub mod EndDays
+pub mod Ends
 pub mod Extents
+pub mod Found
 pub mod Naming
+pub mod Over
 pub mod RowsTold
 pub mod Sentences
 pub mod Vehicles

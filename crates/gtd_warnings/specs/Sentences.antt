@@ -18,7 +18,7 @@ seconds_text second = if second % 60 == 0 then [] else codes ":" ++ two_digits (
 abbrev pub clock_text : ℕ → List ℕ
 clock_text second = two_digits (second / 3600) ++ (codes ":" ++ (two_digits (second / 60 % 60) ++ seconds_text second))
 
--- the time at which the stretches of a basic domain end, if they last less than a day
+-- the time of the day at which the stretches of a basic domain end, if all begin at one time of it
 abbrev pub end_of : Part → ℕ
 end_of part = (part.begin + part.clock) % 86_400
 

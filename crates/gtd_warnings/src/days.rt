@@ -1,25 +1,29 @@
 //! Domains that are over, or soon.
 
-ghost use Rattle.std.specs.Prelude.{◌↔◌, IfOk, IfSome, IfNone, IsTrue, MatchOption};
+ghost use Rattle.std.specs.Prelude.{◌≡◌, ◌↔◌, ◌+ℤ◌, IfOk, IsTrue, MatchOption, Some, pos};
 ghost use Rattle.gtd_core.specs.Parts.{domain_tree};
+ghost use Rattle.gtd_core.specs.Whole.{from_day};
 ghost use Rattle.gtd_core.specs.declared.horizon.Horizon.{Horizon};
-ghost use Rattle.gtd_mistakes.specs.declared.rule.Rule.{Rule};
-ghost use Rattle.gtd_warnings.specs.Days.{AreDaysFrom, HoldsNever, HoldsOn, IsLater};
+ghost use Rattle.gtd_mistakes.specs.declared.rule.Rule.TheVariants as rule;
+ghost use Rattle.gtd_warnings.specs.Days.{AreDaysFrom, HoldsOn};
+ghost use Rattle.gtd_warnings.specs.EndDays.{IsEndedBy};
+ghost use Rattle.gtd_warnings.specs.Extents.{HoldsThroughout};
+ghost use Rattle.gtd_warnings.specs.Found.{IsFound};
 ghost use Rattle.gtd_warnings.specs.RowsTold.{IsOnDay};
 
+use crate::over::{end_day, gives_year, holds_none_from};
 use gtd_core::limits::HORIZONS_END;
 use gtd_core::{Domain, Horizon};
-use gtd_eval::{next_change, stay_of};
 use gtd_mistakes::Rule;
 use std::alloc::{AllocError, Global};
 
 /// How many days from the one that is asked about are soon.
 pub const DAYS_AHEAD: i64 = 30;
 
-/// How many days are looked at: those of 400 years.
+/// How many days are at most given for one that is asked about: those of 400 years.
 pub const DAYS_LOOKED_AT: i64 = 146_097;
 
-/// The days to look at for rows that are over on a day: the 400 years from it on, but none after 2699-12-31. `None` if there are
+/// The days that are given for rows that are over on a day: the 400 years from it on, but none after 2699-12-31. `None` if there are
 /// none, or the day is before 1901-01-01.
 pub fn days_from(day: i64) -> Option<Horizon>
     ensures days { MatchOption result ((days : Horizon) → AreDaysFrom day days → ⊥) (AreDaysFrom day) }
@@ -35,58 +39,76 @@ pub fn days_from(day: i64) -> Option<Horizon>
     }
 }
 
-// Whether a domain holds at no second of the days.
-fn holds_never(alloc: Global, domain: &Domain, days: Horizon) -> Result<bool, AllocError>
-    ensures { IfOk result (λ never. IsTrue never ↔ HoldsNever (domain_tree domain.now) days) }
+// The day 30 days after the first of these days.
+fn soon_after(days: Horizon) -> i64
+    ensures value { result ≡ (from_day days +ℤ pos 30) }
 {
-    let first = days.whole().from();
-    if stay_of(domain, first, days).holds {
-        return Ok(false);
-    }
-    let change = next_change(alloc, domain, first, days)?;
-    Ok(change.is_none())
+    days.from_day() + DAYS_AHEAD
 }
 
-// The days without the first 30, if there are more.
-fn later(days: Horizon) -> Option<Horizon>
-    ensures days { IfSome result (IsLater days) }
-    ensures none { IfNone result ((late : Horizon) → IsLater days late → ⊥) }
+// The rule that holds on the first of these days of a domain that ends by its years before another day.
+fn rule_by_end(
+    alloc: Global,
+    domain: &Domain,
+    days: Horizon,
+    end: i64,
+) -> Result<Option<Rule>, AllocError>
+    requires ended { IsEndedBy (domain_tree domain.now) end }
+    ensures found { IfOk result (IsFound (λ it. HoldsOn it days (domain_tree domain.now))) }
 {
-    match Horizon::new(days.from_day() + DAYS_AHEAD, days.to_day()) {
-        Ok(late) => Some(late),
-        Err(_) => None,
-    }
-}
-
-// The rule that holds of a domain on the first of these days: `Past` or `EndsSoon`, if one does.
-fn rule_on(alloc: Global, domain: &Domain, days: Horizon) -> Result<Option<Rule>, AllocError>
-    ensures { IfOk result (λ found. MatchOption found
-        ((rule : Rule) → HoldsOn rule days (domain_tree domain.now) → ⊥)
-        (λ rule. HoldsOn rule days (domain_tree domain.now))) }
-{
-    if holds_never(alloc, domain, days)? {
+    let day = days.from_day();
+    if holds_none_from(alloc, domain, day, end)? {
         return Ok(Some(Rule::Past));
     }
-    let Some(late) = later(days) else {
-        return Ok(None);
-    };
-    if holds_never(alloc, domain, late)? {
+    let soon = soon_after(days);
+    if holds_none_from(alloc, domain, soon, end)? {
         return Ok(Some(Rule::EndsSoon));
     }
     Ok(None)
 }
 
-/// The rule that holds of a domain on the first of these days, if some are given and one does.
+// The rule that holds on the first of these days of a domain that some second from 1901 on is in, or of which that is not known.
+fn rule_of_some(alloc: Global, domain: &Domain, days: Horizon) -> Result<Option<Rule>, AllocError>
+    requires some { HoldsThroughout (domain_tree domain.now) rule.NeverHolds → ⊥ }
+    ensures found { IfOk result (IsFound (λ it. HoldsOn it days (domain_tree domain.now))) }
+{
+    // It repeats for ever.
+    if !gives_year(domain.expr()) {
+        return Ok(None);
+    }
+    match end_day(domain.expr()) {
+        Some(end) => rule_by_end(alloc, domain, days, end),
+        None => Ok(None),
+    }
+}
+
+// Whether `NeverHolds` was found.
+fn is_never(found: Option<Rule>) -> bool
+    ensures never { IsTrue result ↔ (found ≡ Some rule.NeverHolds) }
+{
+    match found {
+        Some(rule) => rule == Rule::NeverHolds,
+        None => false,
+    }
+}
+
+/// The rule that holds of a domain on the first of these days, if some are given and one does: `Past` or `EndsSoon`. What holds of
+/// it throughout was found before.
 pub(crate) fn rule_on_given(
     alloc: Global,
     domain: &Domain,
     days: Option<Horizon>,
+    throughout: Option<Rule>,
 ) -> Result<Option<Rule>, AllocError>
-    ensures { IfOk result (λ found. MatchOption found
-        ((rule : Rule) → IsOnDay days (domain_tree domain.now) rule → ⊥) (IsOnDay days (domain_tree domain.now))) }
+    requires throughout { IsFound (HoldsThroughout (domain_tree domain.now)) throughout }
+    ensures found { IfOk result (IsFound (IsOnDay days (domain_tree domain.now))) }
 {
-    match days {
-        Some(days) => rule_on(alloc, domain, days),
-        None => Ok(None),
+    let Some(days) = days else {
+        return Ok(None);
+    };
+    if is_never(throughout) {
+        Ok(Some(Rule::Past))
+    } else {
+        rule_of_some(alloc, domain, days)
     }
 }

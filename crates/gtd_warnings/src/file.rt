@@ -8,6 +8,6 @@ use gtd_mistakes::Rule;
 pub struct Asked {
     /// The rules that are turned off.
     pub off: Vec<Rule>,
-    /// The days to look at for rows that are over, from the one that is asked about on. `None` asks for no such rows.
+    /// The days from the one that is asked about on, for rows that are over. `None` asks for no such rows.
     pub days: Option<Horizon>,
 }

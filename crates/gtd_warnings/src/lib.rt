@@ -22,6 +22,7 @@ mod file;
 mod hash;
 mod known;
 pub mod laws;
+mod over;
 mod row;
 mod sentences;
 mod vehicles;

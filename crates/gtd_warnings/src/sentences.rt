@@ -52,7 +52,7 @@ impl Display for ClockText {
     }
 }
 
-// The time at which the stretches of a basic domain end, if they last less than a day.
+// The time of the day at which the stretches of a basic domain end, if all begin at one time of it.
 fn end_of(part: Part) -> u32
     ensures { result ≡ spec.end_of part }
 {

@@ -28,6 +28,6 @@ pub(crate) fn rules_of_whole(
     ensures { IfOk result (AreOfWhole days (domain_tree domain.now)) }
 {
     let throughout = rule_throughout(alloc, domain)?;
-    let on_day = rule_on_given(alloc, domain, days)?;
+    let on_day = rule_on_given(alloc, domain, days, throughout)?;
     Ok(WholeRules { throughout, on_day })
 }
