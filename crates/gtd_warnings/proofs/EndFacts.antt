@@ -1,10 +1,10 @@
 -- The day that is computed is one before which the expression ends by its years, and there is none if it need not end by them.
-use Rattle.std.proofs.Common.{◌≡◌, ℕ, ◌+◌, ◌*◌, ◌/◌, ◌≤◌, Bool, true, false, cond, Option, Some, None, MatchOption, inl, inr}
-use Rattle.std.proofs.Common.{◌∙◌, refl, sym, subst, arith}
-use Rattle.std.specs.Prelude.{IsSomeAnd, ℤ, pos, neg_ℤ, ◌-ℤ◌, ◌*ℤ◌, ◌<ℤ◌, ◌≤ℤ◌, int_lt, nat_le}
+use Rattle.std.proofs.Common.{◌≡◌, ℕ, ◌+◌, ◌/◌, ◌≤◌, Bool, true, false, cond, Option, Some, None, MatchOption, inl, inr}
+use Rattle.std.proofs.Common.{◌∙◌, refl, sym, arith}
+use Rattle.std.specs.Prelude.{ℤ, pos, neg_ℤ, ◌<ℤ◌, ◌≤ℤ◌, int_lt, nat_le}
 use Rattle.std.proofs.lemmas.Bool.{leb-true, le-leb, false≢true}
 use Rattle.std.proofs.lemmas.Int.{ints, by_lt_z}
-use Rattle.gtd_core.specs.Limits.{day_seconds, horizons_end}
+use Rattle.gtd_core.specs.Limits.{horizons_end}
 use Rattle.gtd_core.specs.Ranges.{IsDuration, bound_of, lookback_of}
 use Rattle.gtd_core.specs.Trees.{AreValid, Tree, Single, Joined}
 use Rattle.gtd_core.specs.declared.duration.DurationParts.{DurationParts}

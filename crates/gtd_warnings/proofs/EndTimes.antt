@@ -1,7 +1,7 @@
 -- Where a warning names an end, each stretch ends at that time of the day; and a part that stays has no stretch that goes on.
 use Rattle.std.proofs.Common.{◌≡◌, ◌≢◌, ◌∙◌, ◌⊎◌, ℕ, ◌+◌, ◌*◌, ◌/◌, ◌%◌, ◌<◌, ◌≤◌, Bool, true, false, ◌||◌, Option, Some, None, is_some}
-use Rattle.std.proofs.Common.{refl, sym, subst, inl, inr, arith, ℤ, pos, ◌+ℤ◌, ◌*ℤ◌, ◌<ℤ◌, ◌≤ℤ◌}
-use Rattle.gtd_calendar.specs.Clock.{IsStop, IsTimeOf}
+use Rattle.std.proofs.Common.{refl, subst, inl, inr, arith, ℤ, pos, ◌+ℤ◌, ◌*ℤ◌, ◌<ℤ◌, ◌≤ℤ◌}
+use Rattle.gtd_calendar.specs.Clock.{IsStop}
 use Rattle.gtd_calendar.specs.facts.ClockLemmas.{stop-without_months}
 use Rattle.gtd_calendar.specs.facts.Signed.{signed_arith}
 use Rattle.gtd_calendar.specs.facts.StopLemmas.{stop-only}

@@ -1,6 +1,6 @@
 -- Expressions that are over, by what they contain before a day by which they end, or by what they repeat.
-use Rattle.std.proofs.Common.{◌≡◌, ◌↔◌, sym, subst, ℕ, ◌+◌, ◌*◌, Bool, true, false, IsTrue, inl, inr, arith}
-use Rattle.std.specs.Prelude.{ℤ, pos, ◌+ℤ◌, ◌≤ℤ◌, ◌<ℤ◌}
+use Rattle.std.proofs.Common.{◌≡◌, ◌↔◌, sym, subst, ℕ, ◌+◌, ◌*◌, Bool, IsTrue, inl, inr, arith}
+use Rattle.std.specs.Prelude.{ℤ, pos, ◌+ℤ◌, ◌≤ℤ◌}
 use Rattle.std.proofs.lemmas.Int.{ints, by_lt_z}
 use Rattle.gtd_core.specs.Trees.{Tree}
 use Rattle.gtd_core.specs.Whole.{from_day}

@@ -1,7 +1,6 @@
 -- A stretch that begins in a given year ends before a day that follows from that year and its duration.
-use Rattle.std.proofs.Common.{◌≡◌, ◌∙◌, ℕ, ◌+◌, ◌-◌, ◌*◌, ◌/◌, ◌<◌, ◌≤◌, Bool, false, Option, Some, None, is_some, IfSome, refl, sym}
+use Rattle.std.proofs.Common.{◌≡◌, ℕ, ◌+◌, ◌-◌, ◌*◌, ◌/◌, ◌<◌, false, Option, Some, None, is_some, IfSome, refl, sym}
 use Rattle.std.proofs.Common.{subst, arith, ℤ, pos, ◌+ℤ◌, ◌-ℤ◌, ◌*ℤ◌, ◌≤ℤ◌, ◌<ℤ◌}
-use Rattle.std.specs.Int.{int_rem_euclid}
 use Rattle.gtd_calendar.specs.Calendar.{IsDateOf, IsWeekOf, first_day, thursday_of, year_length}
 use Rattle.gtd_calendar.specs.Clock.{second_of_day}
 use Rattle.gtd_calendar.specs.ComputedEnds.{stop}

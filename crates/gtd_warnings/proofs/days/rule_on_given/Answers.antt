@@ -1,11 +1,6 @@
 -- A domain that never holds is over by each day, and of one of which that was not found it does not hold.
-use Rattle.std.proofs.Common.{◌≡◌, Option, Some, subst}
 use Rattle.gtd_core.specs.Parts.{domain_tree}
-use Rattle.gtd_mistakes.specs.declared.rule.Rule.{Rule}
-use Rattle.gtd_warnings.specs.Extents.{HoldsThroughout}
-use Rattle.gtd_warnings.specs.Found.{IsFound}
 use Rattle.gtd_warnings.proofs.DayFacts.{not_never}
-use Rattle.gtd_warnings.proofs.OverFacts.{over_before}
 use Rattle.gtd_warnings.proofs.days.rule_on_given.Goals as goal
 
 pub rule_of_some-requires : goal.rule_of_some-requires

@@ -1,9 +1,7 @@
 -- What is over is over for each second to come, what repeats does so at all times, and what ends by its years ends before 2700.
-use Rattle.std.proofs.Common.{◌≡◌, MatchOption, Option, Some, None, refl, arith, ℤ}
+use Rattle.std.proofs.Common.{arith}
 use Rattle.std.proofs.lemmas.Int.{ints}
-use Rattle.gtd_core.specs.Trees.{Tree}
 use Rattle.gtd_eval.specs.Extent.{first_second}
-use Rattle.gtd_warnings.specs.EndDays.{end_day}
 use Rattle.gtd_warnings.proofs.EndFacts.{ends_by_years}
 use Rattle.gtd_warnings.proofs.OverFacts.{none_from_any}
 use Rattle.gtd_warnings.proofs.laws.said_for_ever.Goals as goal

@@ -1,9 +1,8 @@
 -- The record's domain is the one that the row's fields stand for, so what is told of it is told of the row.
-use Rattle.std.proofs.Common.{◌≡◌, ◌∙◌, ap, sym, Some}
+use Rattle.std.proofs.Common.{◌≡◌, sym, Some}
 use Rattle.std.proofs.lemmas.Result.{IfOk-weaker}
 use Rattle.csv.specs.Records.{fields_of}
 use Rattle.gtd_core.specs.Parts.{domain_tree}
-use Rattle.gtd_records.specs.Closing.{Restriction}
 use Rattle.gtd_warnings.proofs.ReadFacts.{domain_read}
 use Rattle.gtd_warnings.proofs.row.told_of_record.Goals as goal
 
