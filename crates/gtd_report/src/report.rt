@@ -105,16 +105,19 @@ pub fn run_report<I: Input, O: Output, R: Report>(
 ) -> Result<u64, RunFault>
     requires readable { I.failure_count input.old < u64.MAX }
     requires writable { O.failure_count output.old < u64.MAX }
-    // Accepted files are put: if nothing hinders it, the output took the text of the file, and the answer is the number
-    // of its lines.
+    // Accepted files are put: if no device failed, and there was memory and input, the output took the text of the file,
+    // and the answer is the number of its lines.
     ensures accepted { IsVehicleInRange (R.subject report.now) → IsYearInRange (R.subject report.now)
+        → I.failure_count input.new ≡ I.failure_count input.old → O.failure_count output.new ≡ O.failure_count output.old
         → AcceptedFilesArePut (IsAccepted (R.subject report.now)) (R.is_text report.now)
         (I.to_come input.old) (O.taken output.old) (O.taken output.new) result }
     // Refused files put nothing: if nothing hinders it, the answer is the first fault of the file.
     ensures refused { IsVehicleInRange (R.subject report.now) → IsYearInRange (R.subject report.now)
+        → I.failure_count input.new ≡ I.failure_count input.old → O.failure_count output.new ≡ O.failure_count output.old
         → RefusedFilesPutNothing (I.to_come input.old) (O.taken output.old) (O.taken output.new) result }
     // Files that do not name the element put nothing: if nothing hinders it, the answer says so.
     ensures unnamed { IsVehicleInRange (R.subject report.now) → IsYearInRange (R.subject report.now)
+        → I.failure_count input.new ≡ I.failure_count input.old → O.failure_count output.new ≡ O.failure_count output.old
         → UnacceptedFilesPutNothing (IsAccepted (R.subject report.now))
         (I.to_come input.old) (O.taken output.old) (O.taken output.new) result }
     // What each answer means: after a failure or a refusal of memory, the first bytes of the same text.

@@ -17,6 +17,6 @@ pub use gtd_records::{
 pub use gtd_report::{Report, RunFault, Subject, run_report};
 pub use gtd_schedule::{Schedule, run_schedule};
 pub use gtd_spans::{SpanList, SpanSource};
-pub use gtd_year::{YearTable, run_year};
+pub use gtd_year::run_year;
 
 pub mod laws;

@@ -2,12 +2,12 @@
 
 ghost use Rattle.std.specs.Prelude.{◌≡◌};
 
-use crate::{is_closed_for_eleven, migrate, schedule_of_eleven};
+use crate::{is_closed_for_eleven, migrate, schedule_of_eleven, shown_to_eleven};
 use gtd_roads::{
     Direction, Horizon, HorizonFault, Host, HostOut, Input, InputFault, MemoryIn, MemoryOut,
     Migration, Output, Pull, Put, RecordFault, Records, RunFault, Schedule, Sec, Span, SpanSource,
-    YearTable, faults_of, open_seconds, read_direction, read_faults, read_number, read_records,
-    read_whole, run_migrate, run_report, run_schedule, run_year, schedule_of,
+    faults_of, open_seconds, read_direction, read_faults, read_number, read_records, read_whole,
+    run_migrate, run_report, run_schedule, run_year, schedule_of,
 };
 use std::alloc::Global;
 use std::process::Abort;
@@ -154,6 +154,7 @@ fn schedules(rt: HostRuntime) {
         schedule_of_eleven(alloc, &mut file(&rt, alloc, None), &mut again, april(&rt)) == Ok(3)
     );
     expect_lines(&rt, alloc, &again, SCHEDULE);
+    shown_to_eleven();
     let report = Schedule {
         horizon: april(&rt),
         vehicle: 0,
@@ -176,21 +177,29 @@ fn schedules(rt: HostRuntime) {
 fn tables_and_migrated_files(rt: HostRuntime) {
     let alloc = rt.alloc();
     let mut table = room(&rt, alloc, None);
-    let asked = YearTable {
-        element: 17,
-        direction: Direction::Positive,
-        vehicle: 11,
-        year: 2024,
-    };
-    let days = run_year(alloc, &mut file(&rt, alloc, None), &mut table, asked);
+    let mut input = file(&rt, alloc, None);
+    let days = run_year(
+        alloc,
+        &mut input,
+        &mut table,
+        17,
+        Direction::Positive,
+        11,
+        2024,
+    );
     assert!(rt; days == Ok(366));
     assert!(rt; table.bytes().len() == 366 * 17);
     let mut other = room(&rt, alloc, None);
-    let report = YearTable {
-        element: 18,
-        ..asked
-    };
-    let unnamed = run_report(alloc, &mut file(&rt, alloc, None), &mut other, &report);
+    let mut input = file(&rt, alloc, None);
+    let unnamed = run_year(
+        alloc,
+        &mut input,
+        &mut other,
+        18,
+        Direction::Positive,
+        11,
+        2024,
+    );
     assert!(rt; unnamed == Err(RunFault::NoElement));
     let mut migrated = room(&rt, alloc, None);
     assert!(rt; migrate(alloc, &mut file(&rt, alloc, None), &mut migrated) == Ok(3));

@@ -8,9 +8,10 @@ ghost use Rattle.gtd_tool.specs.Plans.{IsReadTo, asked_by};
 ghost use Rattle.gtd_tool.specs.Printed.{AppendsLine, AsksPastYears, IsAnswer};
 ghost use Rattle.gtd_tool.specs.Running.{IfAlone, IfFile, Ran};
 
+use crate::commands::year::YearTable;
 use crate::plans::Plan;
 use crate::refusal::Refusal;
-use gtd_roads::{Input, YearTable};
+use gtd_roads::Input;
 use std::alloc::Global;
 use std::io::Write;
 

@@ -11,7 +11,7 @@ use Rattle.gtd_records.specs.File.{IsFile}
 use Rattle.gtd_records.specs.Closing.{Restriction}
 use Rattle.gtd_records.specs.declared.direction.Direction.{Direction}
 use Rattle.gtd_records.specs.declared.fault.RecordFault.{RecordFault}
-use Rattle.gtd_report.specs.Run.{IsUnhindered, PutsWhole}
+use Rattle.gtd_report.specs.Run.{HadMemoryAndInput, PutsWhole}
 use Rattle.gtd_report.specs.declared.fault.RunFault.{RunFault}
 use Rattle.gtd_report.specs.declared.fault.RunFault.TheVariants as fault
 use Rattle.gtd_year.specs.YearTable.{IsYearTable}
@@ -20,12 +20,12 @@ use Rattle.gtd_year.specs.YearTable.{IsYearTable}
 abbrev pub IsNamed : ℕ → List Restriction → Type 0
 IsNamed element found = Any (λ (r : Restriction). r.element ≡ element) found
 
--- If neither device failed, no memory was refused and the input did not fall silent.
+-- Of a run whose devices did not fail, if it had memory and input.
 pub record YearClaim (element : ℕ) (direction : Direction) (vehicle year : ℕ)
     (file before after : Option (List ℕ)) (answer : Result ℕ RunFault) : Type 0 where
-  pub accepted : IsUnhindered answer → IfSome file (λ bytes. (found : List Restriction) → IsFile bytes (Ok found)
+  pub accepted : HadMemoryAndInput answer → IfSome file (λ bytes. (found : List Restriction) → IsFile bytes (Ok found)
       → IsNamed element found → PutsWhole (IsYearTable found element direction vehicle year) before after answer)
-  pub unnamed : IsUnhindered answer → IfSome file (λ bytes. (found : List Restriction) → IsFile bytes (Ok found)
+  pub unnamed : HadMemoryAndInput answer → IfSome file (λ bytes. (found : List Restriction) → IsFile bytes (Ok found)
       → (IsNamed element found → ⊥) → (answer ≡ Err fault.NoElement) × Keeps before after)
-  pub refused : IsUnhindered answer → IfSome file (λ bytes. (why : RecordFault) → IsFile bytes (Err why)
+  pub refused : HadMemoryAndInput answer → IfSome file (λ bytes. (why : RecordFault) → IsFile bytes (Err why)
       → (answer ≡ Err (fault.Records why)) × Keeps before after)

@@ -17,17 +17,13 @@ use gtd_report::{Printer, Report, RunFault, Stop, Subject, finish, run_report};
 use gtd_spans::ByDay;
 use std::alloc::Global;
 
-/// The table of a year, for an element in a direction and a vehicle type.
-#[derive(Clone, Copy, Debug, PartialEq, Eq)]
-pub struct YearTable {
-    /// The element.
-    pub element: u64,
-    /// The direction.
-    pub direction: Direction,
-    /// The vehicle type.
-    pub vehicle: u8,
-    /// The year.
-    pub year: u16,
+// The table of a year, for an element in a direction and a vehicle type.
+#[derive(Clone, Copy)]
+struct YearTable {
+    element: u64,
+    direction: Direction,
+    vehicle: u8,
+    year: u16,
 }
 
 impl Report for YearTable {
@@ -81,30 +77,40 @@ pub fn run_year<I: Input, O: Output>(
     alloc: Global,
     input: &mut I,
     output: &mut O,
-    table: YearTable,
+    element: u64,
+    direction: Direction,
+    vehicle: u8,
+    year: u16,
 ) -> Result<u64, RunFault>
     requires readable { I.failure_count input.old < u64.MAX }
     requires writable { O.failure_count output.old < u64.MAX }
-    // If nothing hindered the run: of a file that names the element the output took the table, and the answer is the
-    // number of its lines; of any other file it took nothing, and the answer says why.
-    ensures claim { IsVehicleType table.vehicle → IsTableYear table.year →
-        YearClaim table.element table.direction table.vehicle table.year
+    // If neither device counted a failure, and there was memory and input: of a file that names the element the output took
+    // the table, and the answer is the number of its lines; of any other file it took nothing, and the answer says why.
+    ensures claim { IsVehicleType vehicle → IsTableYear year
+        → I.failure_count input.new ≡ I.failure_count input.old → O.failure_count output.new ≡ O.failure_count output.old
+        → YearClaim element direction vehicle year
         (I.to_come input.old) (O.taken output.old) (O.taken output.new) result }
     // What each answer means: after a failure or a refusal of memory, the first bytes of the same table.
     ensures stands { HasRun
-        (λ found. Any (λ (r : Restriction). r.element ≡ table.element) found)
-        (λ found lines. IsYearTable found table.element table.direction table.vehicle table.year lines)
+        (λ found. Any (λ (r : Restriction). r.element ≡ element) found)
+        (λ found lines. IsYearTable found element direction vehicle year lines)
         (I.to_come input.old) (O.taken output.old) (O.taken output.new) result }
-    ensures days { IfOk result (λ count. count ≡ year_length (pos table.year)) }
+    ensures days { IfOk result (λ count. count ≡ year_length (pos year)) }
     // An output that took the whole text was then ended, last of all.
     ensures ended { OnOk result (IsTrue (O.is_ended output.new)) }
-    ensures vehicle { IsErrOf result RunFault.VehicleRange ↔ (IsVehicleType table.vehicle → ⊥) }
-    ensures year { IsErrOf result RunFault.YearRange ↔ (IsVehicleType table.vehicle × (IsTableYear table.year → ⊥)) }
+    ensures vehicle { IsErrOf result RunFault.VehicleRange ↔ (IsVehicleType vehicle → ⊥) }
+    ensures year { IsErrOf result RunFault.YearRange ↔ (IsVehicleType vehicle × (IsTableYear year → ⊥)) }
     ensures endless { IsErrOf result (RunFault.Records RecordFault.Endless) → IsTrue (I.may_fall_silent input.old) }
     ensures read_faults { I.failure_count input.new
         ≡ failures_after_read result (I.failure_count input.old) }
     ensures write_faults { O.failure_count output.new
         ≡ failures_after_write result (O.failure_count output.old) }
 {
+    let table = YearTable {
+        element,
+        direction,
+        vehicle,
+        year,
+    };
     run_report(alloc, input, output, &table)
 }

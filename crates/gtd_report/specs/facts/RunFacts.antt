@@ -1,14 +1,15 @@
 -- What holds when a run has ended, and the claims that follow.
 use Rattle.std.proofs.Common.{◌≡◌, ◌∙◌, ◌+◌, ap, refl, arith, subst, length, Bool, ℕ, List, Option, Some, None}
-use Rattle.std.specs.Prelude.{◌≢◌, IsTrue, OnOk, Result, Ok, Err, IfOk, IfSome}
+use Rattle.std.specs.Prelude.{◌≢◌, ◌↔◌, ⊤, IsTrue, OnOk, Result, Ok, Err, IfOk, IfSome}
 use Rattle.std.proofs.KnownBytes.{Keeps-refl}
 use Rattle.gtd_records.specs.facts.OneAnswer.{one_file}
 use Rattle.gtd_records.specs.File.{IsFile, IsOfFile}
 use Rattle.gtd_records.specs.Closing.{Restriction}
 use Rattle.gtd_records.specs.declared.fault.RecordFault.{RecordFault}
+use Rattle.gtd_records.specs.declared.fault.RecordFault.TheVariants as records
 use Rattle.gtd_report.specs.Putting.{Puts, PutsText, answer_of, nothing_put, text_of}
-use Rattle.gtd_report.specs.Run.{AcceptedFilesArePut, HasRun, IsLineCount, PutsWhole, RefusedFilesPutNothing, TookFirst}
-use Rattle.gtd_report.specs.Run.{TookFirstOf, UnacceptedFilesPutNothing}
+use Rattle.gtd_report.specs.Run.{AcceptedFilesArePut, CountsNone, HadMemoryAndInput, HasRun, IsLineCount, PutsWhole}
+use Rattle.gtd_report.specs.Run.{RefusedFilesPutNothing, TookFirst, TookFirstOf, UnacceptedFilesPutNothing, failures_after_read, failures_after_write}
 use Rattle.gtd_report.specs.declared.fault.RunFault.{RunFault}
 use Rattle.gtd_report.specs.declared.fault.RunFault.TheVariants as fault
 use Rattle.gtd_report.specs.declared.output.Progress.{Progress}
@@ -108,57 +109,177 @@ same_found bytes a b p q = ok_same (one_file bytes (Ok a) (Ok b) p q)
 pub apart : (bytes : List ℕ) (found : List Restriction) (why : RecordFault) → IsFile bytes (Ok found) → IsFile bytes (Err why) → ⊥
 apart bytes found why p q = let e = one_file bytes (Ok found) (Err why) p q in cc
 
+-- Nothing hindered the run: the answer is of the file, or of what was asked for.
+abbrev pub IsUnhindered : Result ℕ RunFault → Type 0
+IsUnhindered (Err (fault.Records why)) = IsOfFile why
+IsUnhindered (Err (fault.WriteFault written)) = ⊥
+IsUnhindered (Err (fault.NoMemory written)) = ⊥
+IsUnhindered answer = ⊤
+
+-- a count that rose did not stay
+risen : (n : ℕ) → n + 1 ≡ n → ⊥
+risen n e = omega arith
+
+-- devices whose counts of failures stayed did not hinder the run
+pub unhindered : (answer : Result ℕ RunFault) (reads writes : ℕ) → failures_after_read answer reads ≡ reads
+    → failures_after_write answer writes ≡ writes → HadMemoryAndInput answer → IsUnhindered answer
+unhindered (Ok count) reads writes read wrote had = tt
+unhindered (Err fault.VehicleRange) reads writes read wrote had = tt
+unhindered (Err fault.YearRange) reads writes read wrote had = tt
+unhindered (Err fault.NoElement) reads writes read wrote had = tt
+unhindered (Err (fault.WriteFault n)) reads writes read wrote had = absurd (risen writes wrote)
+unhindered (Err (fault.NoMemory n)) reads writes read wrote had = absurd had
+unhindered (Err (fault.Records records.ReadFault)) reads writes read wrote had = absurd (risen reads read)
+unhindered (Err (fault.Records records.Endless)) reads writes read wrote had = absurd had
+unhindered (Err (fault.Records records.NoMemory)) reads writes read wrote had = absurd had
+unhindered (Err (fault.Records records.TooLarge)) reads writes read wrote had = tt
+unhindered (Err (fault.Records records.Header)) reads writes read wrote had = tt
+unhindered (Err (fault.Records (records.FieldCount row))) reads writes read wrote had = tt
+unhindered (Err (fault.Records (records.Element row))) reads writes read wrote had = tt
+unhindered (Err (fault.Records (records.Direction row))) reads writes read wrote had = tt
+unhindered (Err (fault.Records (records.Vehicle row))) reads writes read wrote had = tt
+unhindered (Err (fault.Records (records.Domain row why))) reads writes read wrote had = tt
+unhindered (Err (fault.Records records.TooManyRows)) reads writes read wrote had = tt
+
+-- and a run that nothing hindered had memory and input, and counts no failure
+pub had_all : (answer : Result ℕ RunFault) → IsUnhindered answer → HadMemoryAndInput answer
+had_all (Ok count) free = tt
+had_all (Err fault.VehicleRange) free = tt
+had_all (Err fault.YearRange) free = tt
+had_all (Err fault.NoElement) free = tt
+had_all (Err (fault.WriteFault n)) free = tt
+had_all (Err (fault.NoMemory n)) free = absurd free
+had_all (Err (fault.Records records.ReadFault)) free = absurd free
+had_all (Err (fault.Records records.Endless)) free = absurd free
+had_all (Err (fault.Records records.NoMemory)) free = absurd free
+had_all (Err (fault.Records records.TooLarge)) free = tt
+had_all (Err (fault.Records records.Header)) free = tt
+had_all (Err (fault.Records (records.FieldCount row))) free = tt
+had_all (Err (fault.Records (records.Element row))) free = tt
+had_all (Err (fault.Records (records.Direction row))) free = tt
+had_all (Err (fault.Records (records.Vehicle row))) free = tt
+had_all (Err (fault.Records (records.Domain row why))) free = tt
+had_all (Err (fault.Records records.TooManyRows)) free = tt
+
+pub none_read : (answer : Result ℕ RunFault) → IsUnhindered answer → CountsNone (failures_after_read answer)
+none_read (Ok count) free = λ n. refl
+none_read (Err fault.VehicleRange) free = λ n. refl
+none_read (Err fault.YearRange) free = λ n. refl
+none_read (Err fault.NoElement) free = λ n. refl
+none_read (Err (fault.WriteFault m)) free = λ n. refl
+none_read (Err (fault.NoMemory m)) free = λ n. refl
+none_read (Err (fault.Records records.ReadFault)) free = λ n. absurd free
+none_read (Err (fault.Records records.Endless)) free = λ n. refl
+none_read (Err (fault.Records records.NoMemory)) free = λ n. refl
+none_read (Err (fault.Records records.TooLarge)) free = λ n. refl
+none_read (Err (fault.Records records.Header)) free = λ n. refl
+none_read (Err (fault.Records (records.FieldCount row))) free = λ n. refl
+none_read (Err (fault.Records (records.Element row))) free = λ n. refl
+none_read (Err (fault.Records (records.Direction row))) free = λ n. refl
+none_read (Err (fault.Records (records.Vehicle row))) free = λ n. refl
+none_read (Err (fault.Records (records.Domain row why))) free = λ n. refl
+none_read (Err (fault.Records records.TooManyRows)) free = λ n. refl
+
+pub none_written : (answer : Result ℕ RunFault) → IsUnhindered answer → CountsNone (failures_after_write answer)
+none_written (Ok count) free = λ n. refl
+none_written (Err fault.VehicleRange) free = λ n. refl
+none_written (Err fault.YearRange) free = λ n. refl
+none_written (Err fault.NoElement) free = λ n. refl
+none_written (Err (fault.WriteFault m)) free = λ n. absurd free
+none_written (Err (fault.NoMemory m)) free = λ n. refl
+none_written (Err (fault.Records why)) free = λ n. refl
+
 module _ (IsAccepted : List Restriction → Type 0) (IsText : List Restriction → List (List ℕ) → Type 0) where
   -- the first claim, of what a run did
   pub accepted_are_put : (answer : Result ℕ RunFault) (file old new : Option (List ℕ)) → answer ≢ Err fault.VehicleRange
       → answer ≢ Err fault.YearRange
-      → HasRun IsAccepted IsText file old new answer → AcceptedFilesArePut IsAccepted IsText file old new answer
-  accepted_are_put answer None old new vehicle year run = λ free. tt
-  accepted_are_put (Ok count) (Some bytes) old new vehicle year run = λ free found file accepted.
+      → (HadMemoryAndInput answer → IsUnhindered answer) → HasRun IsAccepted IsText file old new answer
+      → AcceptedFilesArePut IsAccepted IsText file old new answer
+  accepted_are_put answer None old new vehicle year free run = λ had. tt
+  accepted_are_put (Ok count) (Some bytes) old new vehicle year free run = λ had found file accepted.
       subst (λ (f : List Restriction). PutsWhole (IsText f) old new (Ok count))
       (same_found bytes run.found found run.file file) run.puts
-  accepted_are_put (Err fault.VehicleRange) (Some bytes) old new vehicle year run = absurd (vehicle refl)
-  accepted_are_put (Err fault.YearRange) (Some bytes) old new vehicle year run = absurd (year refl)
-  accepted_are_put (Err (fault.Records why)) (Some bytes) old new vehicle year run = λ free found file accepted.
-      absurd (apart bytes found why file (run.1 free))
-  accepted_are_put (Err fault.NoElement) (Some bytes) old new vehicle year run = λ free found file accepted.
+  accepted_are_put (Err fault.VehicleRange) (Some bytes) old new vehicle year free run = absurd (vehicle refl)
+  accepted_are_put (Err fault.YearRange) (Some bytes) old new vehicle year free run = absurd (year refl)
+  accepted_are_put (Err (fault.Records why)) (Some bytes) old new vehicle year free run = λ had found file accepted.
+      absurd (apart bytes found why file (run.1 (free had)))
+  accepted_are_put (Err fault.NoElement) (Some bytes) old new vehicle year free run = λ had found file accepted.
       absurd (run.1.2 (subst IsAccepted (same_found bytes found run.1.0 file run.1.1) accepted))
-  accepted_are_put (Err (fault.WriteFault n)) (Some bytes) old new vehicle year run = λ free. absurd free
-  accepted_are_put (Err (fault.NoMemory n)) (Some bytes) old new vehicle year run = λ free. absurd free
+  accepted_are_put (Err (fault.WriteFault n)) (Some bytes) old new vehicle year free run = λ had. absurd (free had)
+  accepted_are_put (Err (fault.NoMemory n)) (Some bytes) old new vehicle year free run = λ had. absurd (free had)
 
   -- the second claim, of what a run did
   pub refused_put_nothing : (answer : Result ℕ RunFault) (file old new : Option (List ℕ)) → answer ≢ Err fault.VehicleRange
       → answer ≢ Err fault.YearRange
-      → HasRun IsAccepted IsText file old new answer → RefusedFilesPutNothing file old new answer
-  refused_put_nothing answer None old new vehicle year run = λ free. tt
-  refused_put_nothing (Ok count) (Some bytes) old new vehicle year run =
-      λ free why file. absurd (apart bytes run.found why run.file file)
-  refused_put_nothing (Err fault.VehicleRange) (Some bytes) old new vehicle year run = absurd (vehicle refl)
-  refused_put_nothing (Err fault.YearRange) (Some bytes) old new vehicle year run = absurd (year refl)
-  refused_put_nothing (Err (fault.Records why)) (Some bytes) old new vehicle year run = λ free other file. (
+      → (HadMemoryAndInput answer → IsUnhindered answer) → HasRun IsAccepted IsText file old new answer
+      → RefusedFilesPutNothing file old new answer
+  refused_put_nothing answer None old new vehicle year free run = λ had. tt
+  refused_put_nothing (Ok count) (Some bytes) old new vehicle year free run =
+      λ had why file. absurd (apart bytes run.found why run.file file)
+  refused_put_nothing (Err fault.VehicleRange) (Some bytes) old new vehicle year free run = absurd (vehicle refl)
+  refused_put_nothing (Err fault.YearRange) (Some bytes) old new vehicle year free run = absurd (year refl)
+  refused_put_nothing (Err (fault.Records why)) (Some bytes) old new vehicle year free run = λ had other file. (
     ap (λ (w : RecordFault). Err (fault.Records w)) (same_fault why other
-        (one_file bytes (Err why) (Err other) (run.1 free) file)),
+        (one_file bytes (Err why) (Err other) (run.1 (free had)) file)),
     run.0,
   )
     where
       same_fault : (x y : RecordFault) → ◌≡◌ {A = Result (List Restriction) RecordFault} (Err x) (Err y) → x ≡ y
       same_fault x y e = cc
-  refused_put_nothing (Err fault.NoElement) (Some bytes) old new vehicle year run = λ free why file.
+  refused_put_nothing (Err fault.NoElement) (Some bytes) old new vehicle year free run = λ had why file.
       absurd (apart bytes run.1.0 why run.1.1 file)
-  refused_put_nothing (Err (fault.WriteFault n)) (Some bytes) old new vehicle year run = λ free. absurd free
-  refused_put_nothing (Err (fault.NoMemory n)) (Some bytes) old new vehicle year run = λ free. absurd free
+  refused_put_nothing (Err (fault.WriteFault n)) (Some bytes) old new vehicle year free run = λ had. absurd (free had)
+  refused_put_nothing (Err (fault.NoMemory n)) (Some bytes) old new vehicle year free run = λ had. absurd (free had)
 
   -- the third claim, of what a run did
   pub unaccepted_put_nothing : (answer : Result ℕ RunFault) (file old new : Option (List ℕ))
-      → answer ≢ Err fault.VehicleRange → answer ≢ Err fault.YearRange → HasRun IsAccepted IsText file old new answer
+      → answer ≢ Err fault.VehicleRange → answer ≢ Err fault.YearRange
+      → (HadMemoryAndInput answer → IsUnhindered answer) → HasRun IsAccepted IsText file old new answer
       → UnacceptedFilesPutNothing IsAccepted file old new answer
-  unaccepted_put_nothing answer None old new vehicle year run = λ free. tt
-  unaccepted_put_nothing (Ok count) (Some bytes) old new vehicle year run = λ free found file never.
+  unaccepted_put_nothing answer None old new vehicle year free run = λ had. tt
+  unaccepted_put_nothing (Ok count) (Some bytes) old new vehicle year free run = λ had found file never.
       absurd (never (subst IsAccepted (same_found bytes run.found found run.file file) run.accepted))
-  unaccepted_put_nothing (Err fault.VehicleRange) (Some bytes) old new vehicle year run = absurd (vehicle refl)
-  unaccepted_put_nothing (Err fault.YearRange) (Some bytes) old new vehicle year run = absurd (year refl)
-  unaccepted_put_nothing (Err (fault.Records why)) (Some bytes) old new vehicle year run = λ free found file never.
-      absurd (apart bytes found why file (run.1 free))
-  unaccepted_put_nothing (Err fault.NoElement) (Some bytes) old new vehicle year run = λ free found file never. (refl, run.0)
-  unaccepted_put_nothing (Err (fault.WriteFault n)) (Some bytes) old new vehicle year run = λ free. absurd free
-  unaccepted_put_nothing (Err (fault.NoMemory n)) (Some bytes) old new vehicle year run = λ free. absurd free
+  unaccepted_put_nothing (Err fault.VehicleRange) (Some bytes) old new vehicle year free run = absurd (vehicle refl)
+  unaccepted_put_nothing (Err fault.YearRange) (Some bytes) old new vehicle year free run = absurd (year refl)
+  unaccepted_put_nothing (Err (fault.Records why)) (Some bytes) old new vehicle year free run = λ had found file never.
+      absurd (apart bytes found why file (run.1 (free had)))
+  unaccepted_put_nothing (Err fault.NoElement) (Some bytes) old new vehicle year free run = λ had found file never. (refl, run.0)
+  unaccepted_put_nothing (Err (fault.WriteFault n)) (Some bytes) old new vehicle year free run = λ had. absurd (free had)
+  unaccepted_put_nothing (Err (fault.NoMemory n)) (Some bytes) old new vehicle year free run = λ had. absurd (free had)
+
+-- ---- the same text, said in another way
+
+module _ (IsAccepted : List Restriction → Type 0) (One Other : List Restriction → List (List ℕ) → Type 0)
+    (same : (found : List Restriction) (lines : List (List ℕ)) → One found lines ↔ Other found lines) where
+  took_as : (bytes : List ℕ) (old new : Option (List ℕ)) (n : ℕ) → TookFirstOf IsAccepted One bytes old new n
+      → TookFirstOf IsAccepted Other bytes old new n
+  took_as bytes old new n took = record {
+    found = took.found;
+    file = took.file;
+    accepted = took.accepted;
+    first = λ lines text. took.first lines ((same took.found lines).1 text);
+  }
+
+  -- what a run did with a text, of the other way to say it
+  pub run_as : (file old new : Option (List ℕ)) (answer : Result ℕ RunFault) → HasRun IsAccepted One file old new answer
+      → HasRun IsAccepted Other file old new answer
+  run_as None old new (Ok count) ran = tt
+  run_as (Some bytes) old new (Ok count) ran = record {
+    found = ran.found;
+    file = ran.file;
+    accepted = ran.accepted;
+    puts = record {
+      lines = ran.puts.lines;
+      is_text = (same ran.found ran.puts.lines).0 ran.puts.is_text;
+      taken = ran.puts.taken;
+      count = ran.puts.count;
+    };
+  }
+  run_as file old new (Err fault.VehicleRange) ran = ran
+  run_as file old new (Err fault.YearRange) ran = ran
+  run_as file old new (Err (fault.Records why)) ran = ran
+  run_as file old new (Err fault.NoElement) ran = ran
+  run_as None old new (Err (fault.WriteFault n)) ran = tt
+  run_as (Some bytes) old new (Err (fault.WriteFault n)) ran = took_as bytes old new n ran
+  run_as None old new (Err (fault.NoMemory n)) ran = tt
+  run_as (Some bytes) old new (Err (fault.NoMemory n)) ran = took_as bytes old new n ran

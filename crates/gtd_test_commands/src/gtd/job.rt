@@ -8,7 +8,7 @@ use gtd_migrate::run_migrate;
 use gtd_records::Direction;
 use gtd_report::RunFault;
 use gtd_schedule::run_schedule;
-use gtd_year::{YearTable, run_year};
+use gtd_year::run_year;
 use std::alloc::Global;
 use std::process::Abort;
 
@@ -45,13 +45,7 @@ pub(crate) fn run<I: Input, O: Output>(
             Err(_) => panic!(rt; "no horizon"),
         },
         Job::Year(element, direction, vehicle, year) => {
-            let table = YearTable {
-                element,
-                direction,
-                vehicle,
-                year,
-            };
-            run_year(alloc, input, output, table)
+            run_year(alloc, input, output, element, direction, vehicle, year)
         }
         Job::Migrate => run_migrate(alloc, input, output),
     }

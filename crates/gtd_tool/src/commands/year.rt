@@ -13,9 +13,22 @@ use crate::plans::Plan;
 use crate::refusal::Refusal;
 use crate::runner::outcome;
 use crate::words::{direction_in, number_in, owned, vehicle_in, year_in};
-use gtd_roads::{HostOut, Input, YearTable, run_year};
+use gtd_roads::{Direction, HostOut, Input, run_year};
 use std::alloc::Global;
 use std::io::Write;
+
+/// What a table is asked of: an element in a direction, a vehicle type, and a year.
+#[derive(Clone, Copy)]
+pub struct YearTable {
+    /// The element.
+    pub element: u64,
+    /// The direction.
+    pub direction: Direction,
+    /// The vehicle type.
+    pub vehicle: u8,
+    /// The year.
+    pub year: u16,
+}
 
 /// The plan of the words.
 pub fn read(alloc: Global, words: &[&str]) -> Result<Plan, Refusal>
@@ -76,5 +89,13 @@ pub fn print<I: Input, W: Write>(
         (I.failure_count input.old) (I.failure_count input.new) result }
 {
     let mut output = HostOut::new(Lent { writer: &mut *out });
-    outcome(run_year(alloc, input, &mut output, table))
+    outcome(run_year(
+        alloc,
+        input,
+        &mut output,
+        table.element,
+        table.direction,
+        table.vehicle,
+        table.year,
+    ))
 }

@@ -8,13 +8,14 @@ use Rattle.gtd_year.proofs.DayFacts.{length-days}
 use Rattle.gtd_year.proofs.run.run_year.Goals as goal
 
 pub returns-clause-claim : goal.returns-clause-claim
-returns-clause-claim g c = λ vehicle year.
-    year_claim _ _ _ _ _ _ _ _ (c.run_report.ensures.accepted vehicle year) (c.run_report.ensures.refused vehicle year)
-    (c.run_report.ensures.unnamed vehicle year)
+returns-clause-claim g c = λ vehicle year read wrote.
+    let e = c.run_report.ensures in
+    year_claim _ _ _ _ _ _ _ _ (e.accepted vehicle year read wrote) (e.refused vehicle year read wrote)
+    (e.unnamed vehicle year read wrote)
 
 pub returns-clause-days : goal.returns-clause-days
 returns-clause-days g c =
-    let a = c.args.table in
+    let a = c.args in
     let y = pos a.year in
     IfOk-weaker c.run_report.result _ _ (λ count is.
     is.3 ∙ (length-days (IsOpen is.0 a.element a.direction a.vehicle) (first_day y) (year_length y) is.1 is.2).0)
