@@ -20,11 +20,13 @@ use Rattle.gtd_ask.specs.declared.fault.QuestionFault.{QuestionFault}
 use Rattle.gtd_ask.specs.declared.fault.QuestionFault.TheVariants as question
 use Rattle.gtd_ask.specs.declared.question.Question.{Question}
 
--- Nothing hindered the run: no device failed, no memory was refused, and no input was silent for 1,000 pulls in a row.
-abbrev pub IsUnhindered : Result ℕ AskFault → Type 0
-IsUnhindered (Ok count) = ⊤
-IsUnhindered (Err (fault.Questions why)) = IsOfFile why
-IsUnhindered (Err (fault.Run why)) = report.IsUnhindered (Err why)
+-- The run had memory and input: the answer is not that memory was refused, or that an input was silent for 1,000 pulls in a
+-- row.
+abbrev pub HadMemoryAndInput : Result ℕ AskFault → Type 0
+HadMemoryAndInput (Err (fault.Questions question.NoMemory)) = ⊥
+HadMemoryAndInput (Err (fault.Questions question.Endless)) = ⊥
+HadMemoryAndInput (Err (fault.Run why)) = report.HadMemoryAndInput (Err why)
+HadMemoryAndInput answer = ⊤
 
 -- the answer of the run over both files, for that of the run over the record file
 abbrev pub answer_for : Result ℕ RunFault → Result ℕ AskFault
@@ -46,6 +48,12 @@ HasAnswered questions records before after (Err (fault.Questions why)) =
 HasAnswered questions records before after (Err (fault.Run why)) =
     IfSome questions (λ bytes. HasRunAfter bytes records before after (Err why))
 
+-- Where the questions or the records are refused, nothing was put, even if an input does not tell its bytes.
+abbrev pub KeepsRefused : Option (List ℕ) → Option (List ℕ) → Result ℕ AskFault → Type 0
+KeepsRefused before after (Err (fault.Questions why)) = Keeps before after
+KeepsRefused before after (Err (fault.Run (run.Records why))) = Keeps before after
+KeepsRefused before after answer = ⊤
+
 -- The output took the answers, and the answer is the number of their lines.
 pub record PutsAnswers (asked : List Question) (found : List Restriction) (before after : Option (List ℕ))
     (answer : Result ℕ AskFault) : Type 0 where
@@ -54,15 +62,15 @@ pub record PutsAnswers (asked : List Question) (found : List Restriction) (befor
   pub taken : Appends before after (text_of lines)
   pub count : answer ≡ Ok (length lines)
 
--- The headline of a run that answers questions. If no device failed, no memory was refused and no input fell silent: of a file
--- of questions and a record file the answers are printed, whole. If the questions are none, nothing is printed, and the answer is
--- their first fault; if only the records are none, it is that of the records.
+-- The headline of a run that answers questions, whose devices did not fail, if it had memory and input: of a file of questions
+-- and a record file the answers are printed, whole. If the questions are none, nothing is printed, and the answer is their first
+-- fault; if only the records are none, it is that of the records.
 pub record Headline (questions records : List ℕ) (before after : Option (List ℕ)) (answer : Result ℕ AskFault) : Type 0 where
-  pub accepted : IsUnhindered answer → (asked : List Question) (found : List Restriction) → IsFile questions (Ok asked)
+  pub accepted : HadMemoryAndInput answer → (asked : List Question) (found : List Restriction) → IsFile questions (Ok asked)
       → record_file.IsFile records (Ok found) → PutsAnswers asked found before after answer
-  pub questions_refused : IsUnhindered answer → (why : QuestionFault) → IsFile questions (Err why)
+  pub questions_refused : HadMemoryAndInput answer → (why : QuestionFault) → IsFile questions (Err why)
       → (answer ≡ Err (fault.Questions why)) × Keeps before after
-  pub records_refused : IsUnhindered answer → (asked : List Question) (why : RecordFault) → IsFile questions (Ok asked)
+  pub records_refused : HadMemoryAndInput answer → (asked : List Question) (why : RecordFault) → IsFile questions (Ok asked)
       → record_file.IsFile records (Err why) → (answer ≡ Err (fault.Run (run.Records why))) × Keeps before after
 
 -- The same, if both inputs tell their bytes.

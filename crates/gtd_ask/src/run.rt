@@ -5,8 +5,8 @@ ghost use Rattle.std.specs.List.{All};
 ghost use Rattle.gtd_core.specs.Seconds.{IsMomentSecond};
 ghost use Rattle.gtd_ask.specs.Answers.{IsText};
 ghost use Rattle.gtd_ask.specs.Questions.{most_questions};
-ghost use Rattle.gtd_ask.specs.Run.{HasAnswered, HeadlineOf, answer_for, failures_after_asking, failures_after_read};
-ghost use Rattle.gtd_ask.specs.Run.{failures_after_write};
+ghost use Rattle.gtd_ask.specs.Run.{HasAnswered, HeadlineOf, KeepsRefused, answer_for, failures_after_asking};
+ghost use Rattle.gtd_ask.specs.Run.{failures_after_read, failures_after_write};
 
 use crate::fault::{AskFault, QuestionFault};
 use crate::put::put_text;
@@ -74,14 +74,18 @@ pub fn run_ask<I: Input, J: Input, O: Output>(
     requires questions_readable { I.failure_count questions.old < u64.MAX }
     requires records_readable { J.failure_count records.old < u64.MAX }
     requires writable { O.failure_count output.old < u64.MAX }
-    // The headline. If nothing hindered the run: of questions and records the output took the answers, and the answer is the
-    // number of their lines; otherwise it took nothing, and the answer is the first fault of the questions, or else of the
-    // records.
-    ensures headline { HeadlineOf (I.to_come questions.old) (J.to_come records.old)
+    // The headline. If no device counted a failure, and there was memory and input: of questions and records the output took
+    // the answers, and the answer is the number of their lines; otherwise it took nothing, and the answer is the first fault of
+    // the questions, or else of the records.
+    ensures headline { I.failure_count questions.new ≡ I.failure_count questions.old
+        → J.failure_count records.new ≡ J.failure_count records.old
+        → O.failure_count output.new ≡ O.failure_count output.old → HeadlineOf (I.to_come questions.old) (J.to_come records.old)
         (O.taken output.old) (O.taken output.new) result }
     // What each answer means: after a failure or a refusal of memory, the first bytes of the same text.
     ensures stands { HasAnswered (I.to_come questions.old) (J.to_come records.old)
         (O.taken output.old) (O.taken output.new) result }
+    // Nothing is put for files that are refused, even if an input does not tell its bytes.
+    ensures kept { KeepsRefused (O.taken output.old) (O.taken output.new) result }
     // An output that took the whole text was then ended, last of all.
     ensures ended { OnOk result (IsTrue (O.is_ended output.new)) }
     ensures vehicle { IsErrOf result (AskFault.Run RunFault.VehicleRange) → ⊥ }

@@ -1,11 +1,13 @@
 -- What holds of the answer of a run over two files, by that of the run over the new one.
-use Rattle.std.proofs.Common.{◌≡◌, ap, refl, subst, ℕ, List, Option, Some, None, Bool}
+use Rattle.std.proofs.Common.{◌≡◌, ◌+◌, ap, arith, refl, subst, ℕ, List, Option, Some, None, Bool}
 use Rattle.std.specs.Prelude.{IfSome, IsErrOf, IsTrue, OnOk, Result, Ok, Err, ⊤}
 use Rattle.std.proofs.KnownBytes.{Keeps-refl}
 use Rattle.gtd_core.specs.declared.horizon.Horizon.{Horizon}
 use Rattle.gtd_records.specs.File.{IsFile, IsOfFile}
 use Rattle.gtd_records.specs.Closing.{Restriction}
+use Rattle.gtd_records.specs.Reading.{failures_after_records}
 use Rattle.gtd_records.specs.declared.fault.RecordFault.{RecordFault}
+use Rattle.gtd_records.specs.declared.fault.RecordFault.TheVariants as records
 use Rattle.gtd_records.specs.facts.OneAnswer.{one_file}
 use Rattle.gtd_report.specs.Run.{AcceptedFilesArePut, HasRun, PutsWhole, RefusedFilesPutNothing}
 use Rattle.gtd_report.specs.Run as report
@@ -14,14 +16,32 @@ use Rattle.gtd_report.specs.declared.fault.RunFault.TheVariants as run
 use Rattle.gtd_report.specs.facts.RunFacts.{apart, same_found}
 use Rattle.gtd_changes.specs.Forms.{IsTextIn}
 use Rattle.gtd_changes.specs.declared.form.Form.{Form}
-use Rattle.gtd_changes.specs.Run.{HasComparedIn, HasRunAfter, HeadlineIn, IsUnhindered, PutsChanges, answer_for}
-use Rattle.gtd_changes.specs.Run.{failures_after_new}
-use Rattle.gtd_changes.specs.Run.{failures_after_old, failures_after_write}
+use Rattle.gtd_changes.specs.Run.{HadMemoryAndInput, HasComparedIn, HasRunAfter, HeadlineIn, KeepsRefused, PutsChanges, answer_for}
+use Rattle.gtd_changes.specs.Run.{failures_after_new, failures_after_old, failures_after_write}
 use Rattle.gtd_changes.specs.declared.fault.ChangesFault.TheVariants as fault
 
-free_run : (r : Result ℕ RunFault) → IsUnhindered (answer_for r) → report.IsUnhindered r
-free_run (Ok count) free = tt
-free_run (Err why) free = free
+had_run : (r : Result ℕ RunFault) → HadMemoryAndInput (answer_for r) → report.HadMemoryAndInput r
+had_run (Ok count) had = tt
+had_run (Err why) had = had
+
+-- a count that rose did not stay
+risen : (n : ℕ) → n + 1 ≡ n → ⊥
+risen n e = omega arith
+
+-- a fault of the old file for which no device failed, and for which there was memory and input, is of the file
+of_file : {T : Type 0} (why : RecordFault) (n : ℕ) → failures_after_records {T = T} (Err why) n ≡ n
+    → HadMemoryAndInput (Err (fault.Old why)) → IsOfFile why
+of_file records.ReadFault n read had = absurd (risen n read)
+of_file records.Endless n read had = absurd had
+of_file records.NoMemory n read had = absurd had
+of_file records.TooLarge n read had = tt
+of_file records.Header n read had = tt
+of_file (records.FieldCount row) n read had = tt
+of_file (records.Element row) n read had = tt
+of_file (records.Direction row) n read had = tt
+of_file (records.Vehicle row) n read had = tt
+of_file (records.Domain row why) n read had = tt
+of_file records.TooManyRows n read had = tt
 
 module _ (form : Form) (vehicle : ℕ) (horizon : Horizon) (was : List Restriction) where
   abbrev IsText : List Restriction → List (List ℕ) → Type 0
@@ -41,12 +61,12 @@ module _ (form : Form) (vehicle : ℕ) (horizon : Horizon) (was : List Restricti
   headline_run None new before after r file accepted refused = tt
   headline_run (Some a) None before after r file accepted refused = tt
   headline_run (Some a) (Some b) before after r file accepted refused = record {
-    accepted = λ free other found fa fb.
+    accepted = λ had other found fa fb.
         subst (λ (x : List Restriction). PutsChanges form vehicle horizon x found before after (answer_for r))
-        (same_found a was other file fa) (whole found before after r (accepted (free_run r free) found fb tt));
-    old_refused = λ free why fa. absurd (apart a was why file fa);
-    new_refused = λ free other why fa fb.
-        let x = refused (free_run r free) why fb in (ap answer_for x.0, x.1);
+        (same_found a was other file fa) (whole found before after r (accepted (had_run r had) found fb tt));
+    old_refused = λ had why fa. absurd (apart a was why file fa);
+    new_refused = λ had other why fa fb.
+        let x = refused (had_run r had) why fb in (ap answer_for x.0, x.1);
   }
 
   after_run : (old new before after : Option (List ℕ)) (r : Result ℕ RunFault) → IfSome old (λ bytes. IsFile bytes (Ok was))
@@ -70,19 +90,32 @@ module _ (form : Form) (vehicle : ℕ) (horizon : Horizon) (was : List Restricti
   compared_run old new before after (Err (run.NoMemory n)) file ran =
       after_run old new before after (Err (run.NoMemory n)) file ran
 
+  -- nothing is put for a vehicle type or a new file that is refused
+  pub kept_run : (new before after : Option (List ℕ)) (r : Result ℕ RunFault) → HasRun (λ found. ⊤) IsText new before after r
+      → KeepsRefused before after (answer_for r)
+  kept_run new before after (Ok count) ran = tt
+  kept_run new before after (Err run.VehicleRange) ran = ran
+  kept_run new before after (Err run.YearRange) ran = tt
+  kept_run new before after (Err (run.Records why)) ran = ran.0
+  kept_run new before after (Err run.NoElement) ran = tt
+  kept_run new before after (Err (run.WriteFault n)) ran = tt
+  kept_run new before after (Err (run.NoMemory n)) ran = tt
+
 -- the headline, of an old file that is not read
-pub headline_old : (form : Form) (vehicle : ℕ) (horizon : Horizon) (old new taken : Option (List ℕ)) (why : RecordFault)
+pub headline_old : {T : Type 0} (form : Form) (vehicle : ℕ) (horizon : Horizon) (old new taken : Option (List ℕ))
+    (why : RecordFault) (n : ℕ) → failures_after_records {T = T} (Err why) n ≡ n
     → IfSome old (λ bytes. IsOfFile why → IsFile bytes (Err why))
     → HeadlineIn form vehicle horizon old new taken taken (Err (fault.Old why))
-headline_old form vehicle horizon None new taken why file = tt
-headline_old form vehicle horizon (Some a) None taken why file = tt
-headline_old form vehicle horizon (Some a) (Some b) taken why file = record {
-  accepted = λ free was found fa fb. absurd (apart a was why fa (file free));
-  old_refused = λ free other fa. (
-    ap (λ (w : RecordFault). Err (fault.Old w)) (same_fault why other (one_file a (Err why) (Err other) (file free) fa)),
+headline_old form vehicle horizon None new taken why n read file = tt
+headline_old form vehicle horizon (Some a) None taken why n read file = tt
+headline_old form vehicle horizon (Some a) (Some b) taken why n read file = record {
+  accepted = λ had was found fa fb. absurd (apart a was why fa (file (of_file why n read had)));
+  old_refused = λ had other fa. (
+    ap (λ (w : RecordFault). Err (fault.Old w))
+        (same_fault why other (one_file a (Err why) (Err other) (file (of_file why n read had)) fa)),
     Keeps-refl taken,
   );
-  new_refused = λ free was other fa fb. absurd (apart a was why fa (file free));
+  new_refused = λ had was other fa fb. absurd (apart a was why fa (file (of_file why n read had)));
 }
   where
     same_fault : (x y : RecordFault) → ◌≡◌ {A = Result (List Restriction) RecordFault} (Err x) (Err y) → x ≡ y

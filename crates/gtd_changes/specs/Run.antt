@@ -20,11 +20,13 @@ use Rattle.gtd_changes.specs.declared.form.Form.TheVariants.{Intervals}
 use Rattle.gtd_changes.specs.declared.fault.ChangesFault.{ChangesFault}
 use Rattle.gtd_changes.specs.declared.fault.ChangesFault.TheVariants as fault
 
--- Nothing hindered the run: no device failed, no memory was refused, and no input was silent for 1,000 pulls in a row.
-abbrev pub IsUnhindered : Result ℕ ChangesFault → Type 0
-IsUnhindered (Ok count) = ⊤
-IsUnhindered (Err (fault.Old why)) = IsOfFile why
-IsUnhindered (Err (fault.Run why)) = report.IsUnhindered (Err why)
+-- The run had memory and input: the answer is not that memory was refused, or that an input was silent for 1,000 pulls in a
+-- row.
+abbrev pub HadMemoryAndInput : Result ℕ ChangesFault → Type 0
+HadMemoryAndInput (Err (fault.Old records.NoMemory)) = ⊥
+HadMemoryAndInput (Err (fault.Old records.Endless)) = ⊥
+HadMemoryAndInput (Err (fault.Run why)) = report.HadMemoryAndInput (Err why)
+HadMemoryAndInput answer = ⊤
 
 -- the answer of the run over both files, for that of the run over the new one
 abbrev pub answer_for : Result ℕ RunFault → Result ℕ ChangesFault
@@ -55,21 +57,28 @@ module _ (form : Form) (vehicle : ℕ) (horizon : Horizon) where
     pub taken : Appends before after (text_of lines)
     pub count : answer ≡ Ok (length lines)
 
-  -- The headline of a run that puts changes, for a vehicle type from 1 to 99. If no device failed, no memory was refused and no
-  -- input fell silent: of two record files their changes are printed, whole. If the old file is none, nothing is printed, and
-  -- the answer is its first fault; if only the new file is none, it is that of the new file.
+  -- The headline of a run that puts changes, for a vehicle type from 1 to 99, whose devices did not fail, if it had memory and
+  -- input: of two record files their changes are printed, whole. If the old file is none, nothing is printed, and the answer is
+  -- its first fault; if only the new file is none, it is that of the new file.
   pub record Headline (old new : List ℕ) (before after : Option (List ℕ)) (answer : Result ℕ ChangesFault) : Type 0 where
-    pub accepted : IsUnhindered answer → (was found : List Restriction) → IsFile old (Ok was) → IsFile new (Ok found)
+    pub accepted : HadMemoryAndInput answer → (was found : List Restriction) → IsFile old (Ok was) → IsFile new (Ok found)
         → PutsChanges was found before after answer
-    pub old_refused : IsUnhindered answer → (why : RecordFault) → IsFile old (Err why)
+    pub old_refused : HadMemoryAndInput answer → (why : RecordFault) → IsFile old (Err why)
         → (answer ≡ Err (fault.Old why)) × Keeps before after
-    pub new_refused : IsUnhindered answer → (was : List Restriction) (why : RecordFault) → IsFile old (Ok was)
+    pub new_refused : HadMemoryAndInput answer → (was : List Restriction) (why : RecordFault) → IsFile old (Ok was)
         → IsFile new (Err why) → (answer ≡ Err (fault.Run (run.Records why))) × Keeps before after
 
   -- The same, if both inputs tell their bytes.
   abbrev pub HeadlineIn : Option (List ℕ) → Option (List ℕ) → Option (List ℕ) → Option (List ℕ) → Result ℕ ChangesFault → Type 0
   HeadlineIn old new before after answer =
       IfSome old (λ a. IfSome new (λ b. Headline a b before after answer))
+
+-- Where the vehicle type or one of the files is refused, nothing was put, even if an input does not tell its bytes.
+abbrev pub KeepsRefused : Option (List ℕ) → Option (List ℕ) → Result ℕ ChangesFault → Type 0
+KeepsRefused before after (Err (fault.Old why)) = Keeps before after
+KeepsRefused before after (Err (fault.Run run.VehicleRange)) = Keeps before after
+KeepsRefused before after (Err (fault.Run (run.Records why))) = Keeps before after
+KeepsRefused before after answer = ⊤
 
 -- The same of a run that puts the intervals.
 abbrev pub HasCompared : ℕ → Horizon → Option (List ℕ) → Option (List ℕ) → Option (List ℕ) → Option (List ℕ)

@@ -6,7 +6,7 @@ ghost use Rattle.gtd_core.specs.Limits.{most_rows};
 ghost use Rattle.gtd_records.specs.Closing.{Restriction};
 ghost use Rattle.gtd_report.specs.Run.{IsVehicleType};
 ghost use Rattle.gtd_changes.specs.Forms.{IsTextIn};
-ghost use Rattle.gtd_changes.specs.Run.{HasCompared, HasComparedIn, HeadlineIn, HeadlineOf, answer_for};
+ghost use Rattle.gtd_changes.specs.Run.{HasCompared, HasComparedIn, HeadlineIn, HeadlineOf, KeepsRefused, answer_for};
 ghost use Rattle.gtd_changes.specs.Run.{failures_after_new, failures_after_old, failures_after_write};
 
 use crate::elements::elements_of_both;
@@ -97,13 +97,18 @@ pub fn run_changes_in<I: Input, J: Input, O: Output>(
     requires old_readable { I.failure_count old.old < u64.MAX }
     requires new_readable { J.failure_count new.old < u64.MAX }
     requires writable { O.failure_count output.old < u64.MAX }
-    // The headline. If nothing hindered the run: of two record files the output took the changes, and the answer is the number
-    // of their lines; otherwise it took nothing, and the answer is the first fault of the old file, or else of the new one.
-    ensures headline { IsVehicleType asked.vehicle → HeadlineIn asked.form asked.vehicle asked.horizon (I.to_come old.old)
-        (J.to_come new.old) (O.taken output.old) (O.taken output.new) result }
+    // The headline. If no device counted a failure, and there was memory and input: of two record files the output took the
+    // changes, and the answer is the number of their lines; otherwise it took nothing, and the answer is the first fault of the
+    // old file, or else of the new one.
+    ensures headline { IsVehicleType asked.vehicle → I.failure_count old.new ≡ I.failure_count old.old
+        → J.failure_count new.new ≡ J.failure_count new.old → O.failure_count output.new ≡ O.failure_count output.old
+        → HeadlineIn asked.form asked.vehicle asked.horizon (I.to_come old.old) (J.to_come new.old)
+        (O.taken output.old) (O.taken output.new) result }
     // What each answer means: after a failure or a refusal of memory, the first bytes of the same text.
     ensures stands { HasComparedIn asked.form asked.vehicle asked.horizon (I.to_come old.old) (J.to_come new.old)
         (O.taken output.old) (O.taken output.new) result }
+    // Nothing is put for files that are refused, even if an input does not tell its bytes.
+    ensures kept { KeepsRefused (O.taken output.old) (O.taken output.new) result }
     // An output that took the whole text was then ended, last of all.
     ensures ended { OnOk result (IsTrue (O.is_ended output.new)) }
     ensures vehicle { IsErrOf result (ChangesFault.Run RunFault.VehicleRange) ↔ (IsVehicleType asked.vehicle → ⊥) }
@@ -143,13 +148,18 @@ pub fn run_changes<I: Input, J: Input, O: Output>(
     requires old_readable { I.failure_count old.old < u64.MAX }
     requires new_readable { J.failure_count new.old < u64.MAX }
     requires writable { O.failure_count output.old < u64.MAX }
-    // The headline. If nothing hindered the run: of two record files the output took the changes, and the answer is the number
-    // of their lines; otherwise it took nothing, and the answer is the first fault of the old file, or else of the new one.
-    ensures headline { IsVehicleType vehicle → HeadlineOf vehicle horizon (I.to_come old.old)
-        (J.to_come new.old) (O.taken output.old) (O.taken output.new) result }
+    // The headline. If no device counted a failure, and there was memory and input: of two record files the output took the
+    // changes, and the answer is the number of their lines; otherwise it took nothing, and the answer is the first fault of the
+    // old file, or else of the new one.
+    ensures headline { IsVehicleType vehicle → I.failure_count old.new ≡ I.failure_count old.old
+        → J.failure_count new.new ≡ J.failure_count new.old → O.failure_count output.new ≡ O.failure_count output.old
+        → HeadlineOf vehicle horizon (I.to_come old.old) (J.to_come new.old)
+        (O.taken output.old) (O.taken output.new) result }
     // What each answer means: after a failure or a refusal of memory, the first bytes of the same text.
     ensures stands { HasCompared vehicle horizon (I.to_come old.old) (J.to_come new.old)
         (O.taken output.old) (O.taken output.new) result }
+    // Nothing is put for files that are refused, even if an input does not tell its bytes.
+    ensures kept { KeepsRefused (O.taken output.old) (O.taken output.new) result }
     // An output that took the whole text was then ended, last of all.
     ensures ended { OnOk result (IsTrue (O.is_ended output.new)) }
     ensures vehicle { IsErrOf result (ChangesFault.Run RunFault.VehicleRange) ↔ (IsVehicleType vehicle → ⊥) }

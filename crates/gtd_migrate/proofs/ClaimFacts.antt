@@ -11,6 +11,6 @@ pub migration_claim : (file before after : Option (List ℕ)) (answer : Result �
     → MigrationClaim file before after answer
 migration_claim None before after answer accepted refused = record { accepted = accepted; refused = refused }
 migration_claim (Some bytes) before after answer accepted refused = record {
-  accepted = λ unhindered found file. accepted unhindered found file tt;
+  accepted = λ had found file. accepted had found file tt;
   refused = refused;
 }

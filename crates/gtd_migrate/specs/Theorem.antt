@@ -9,13 +9,13 @@ use Rattle.gtd_migrate.specs.Migrated.{migrated}
 use Rattle.gtd_records.specs.File.{IsFile}
 use Rattle.gtd_records.specs.Closing.{Restriction}
 use Rattle.gtd_records.specs.declared.fault.RecordFault.{RecordFault}
-use Rattle.gtd_report.specs.Run.{IsUnhindered, PutsWhole}
+use Rattle.gtd_report.specs.Run.{HadMemoryAndInput, PutsWhole}
 use Rattle.gtd_report.specs.declared.fault.RunFault.{RunFault}
 use Rattle.gtd_report.specs.declared.fault.RunFault.TheVariants as fault
 
--- If neither device failed, no memory was refused and the input did not fall silent.
+-- Of a run whose devices did not fail, if it had memory and input.
 pub record MigrationClaim (file before after : Option (List ℕ)) (answer : Result ℕ RunFault) : Type 0 where
-  pub accepted : IsUnhindered answer → IfSome file (λ bytes. (found : List Restriction) → IsFile bytes (Ok found)
+  pub accepted : HadMemoryAndInput answer → IfSome file (λ bytes. (found : List Restriction) → IsFile bytes (Ok found)
       → PutsWhole (λ lines. lines ≡ migrated found) before after answer)
-  pub refused : IsUnhindered answer → IfSome file (λ bytes. (why : RecordFault) → IsFile bytes (Err why)
+  pub refused : HadMemoryAndInput answer → IfSome file (λ bytes. (why : RecordFault) → IsFile bytes (Err why)
       → (answer ≡ Err (fault.Records why)) × Keeps before after)

@@ -268,15 +268,18 @@ pub fn run_now<I: Input, O: Output>(
     requires in_range { IsHorizonSecond asked.now.second.0 }
     requires readable { I.failure_count input.old < u64.MAX }
     requires writable { O.failure_count output.old < u64.MAX }
-    // Accepted files are shown: if nothing hinders it, the output took the state of the file's elements, and the answer is
-    // the number of its entries, and one more.
-    ensures accepted { IsVehicleType asked.now.vehicle → AcceptedFilesArePut
+    // Accepted files are shown: if neither device counted a failure, and there was memory and input, the output took the
+    // state of the file's elements, and the answer is the number of its entries, and one more.
+    ensures accepted { IsVehicleType asked.now.vehicle
+        → I.failure_count input.new ≡ I.failure_count input.old → O.failure_count output.new ≡ O.failure_count output.old
+        → AcceptedFilesArePut
         (λ found. ⊤)
         (λ found. IsNowOf (I.to_come input.old) found (query_of asked.now))
         (I.to_come input.old) (O.taken output.old) (O.taken output.new) (entries_of result) }
     // Refused files print nothing: if nothing hinders it, the answer is the first fault of the file.
-    ensures refused { IsVehicleType asked.now.vehicle → RefusedFilesPutNothing
-        (I.to_come input.old) (O.taken output.old) (O.taken output.new) (entries_of result) }
+    ensures refused { IsVehicleType asked.now.vehicle
+        → I.failure_count input.new ≡ I.failure_count input.old → O.failure_count output.new ≡ O.failure_count output.old
+        → RefusedFilesPutNothing (I.to_come input.old) (O.taken output.old) (O.taken output.new) (entries_of result) }
     // What each answer means: after a failure or a refusal of memory, the first bytes of the same text.
     ensures stands { HasRun
         (λ found. ⊤)

@@ -90,18 +90,23 @@ pub fn run_picture<I: Input, O: Output>(
 ) -> Result<u64, RunFault>
     requires readable { I.failure_count input.old < u64.MAX }
     requires writable { O.failure_count output.old < u64.MAX }
-    // Accepted files are shown: if nothing hinders it, the output took the picture of an element that the file names, and
-    // the answer is the number of its lines.
-    ensures accepted { IsVehicleType picture.now.vehicle → IsTableYear picture.now.year → AcceptedFilesArePut
+    // Accepted files are shown: if neither device counted a failure, and there was memory and input, the output took the
+    // picture of an element that the file names, and the answer is the number of its lines.
+    ensures accepted { IsVehicleType picture.now.vehicle → IsTableYear picture.now.year
+        → I.failure_count input.new ≡ I.failure_count input.old → O.failure_count output.new ≡ O.failure_count output.old
+        → AcceptedFilesArePut
         (λ found. Any (λ (r : Restriction). r.element ≡ picture.now.element) found)
         (λ found lines. IsOpenSeen found picture.now.element picture.now.direction picture.now.vehicle
         picture.now.title.now picture.now.year lines)
         (I.to_come input.old) (O.taken output.old) (O.taken output.new) result }
     // Refused files print nothing: if nothing hinders it, the answer is the first fault of the file.
-    ensures refused { IsVehicleType picture.now.vehicle → IsTableYear picture.now.year → RefusedFilesPutNothing
-        (I.to_come input.old) (O.taken output.old) (O.taken output.new) result }
+    ensures refused { IsVehicleType picture.now.vehicle → IsTableYear picture.now.year
+        → I.failure_count input.new ≡ I.failure_count input.old → O.failure_count output.new ≡ O.failure_count output.old
+        → RefusedFilesPutNothing (I.to_come input.old) (O.taken output.old) (O.taken output.new) result }
     // An element that the file does not name has no picture: if nothing hinders it, the answer says so.
-    ensures unnamed { IsVehicleType picture.now.vehicle → IsTableYear picture.now.year → UnacceptedFilesPutNothing
+    ensures unnamed { IsVehicleType picture.now.vehicle → IsTableYear picture.now.year
+        → I.failure_count input.new ≡ I.failure_count input.old → O.failure_count output.new ≡ O.failure_count output.old
+        → UnacceptedFilesPutNothing
         (λ found. Any (λ (r : Restriction). r.element ≡ picture.now.element) found)
         (I.to_come input.old) (O.taken output.old) (O.taken output.new) result }
     // What each answer means: after a failure or a refusal of memory, the first bytes of the same picture.

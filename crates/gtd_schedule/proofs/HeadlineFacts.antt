@@ -11,9 +11,9 @@ pub headline : (vehicle : ℕ) (horizon : Horizon) (file before after : Option (
     → AcceptedFilesArePut (λ found. ⊤) (λ found lines. IsSchedule found vehicle horizon lines) file before after answer
     → RefusedFilesPutNothing file before after answer
     → Headline vehicle horizon file before after answer
-headline vehicle horizon None before after answer accepted refused = record { accepted = λ unhindered. tt; refused = refused }
+headline vehicle horizon None before after answer accepted refused = record { accepted = λ had. tt; refused = refused }
 headline vehicle horizon (Some bytes) before after answer accepted refused = record {
-  accepted = λ unhindered found file.
-      (puts-schedule found vehicle horizon before after answer).1 (accepted unhindered found file tt);
+  accepted = λ had found file.
+      (puts-schedule found vehicle horizon before after answer).1 (accepted had found file tt);
   refused = refused;
 }

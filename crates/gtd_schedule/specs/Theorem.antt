@@ -12,16 +12,16 @@ use Rattle.gtd_core.specs.declared.horizon.Horizon.{Horizon}
 use Rattle.gtd_records.specs.File.{IsFile}
 use Rattle.gtd_records.specs.Closing.{Restriction}
 use Rattle.gtd_records.specs.declared.fault.RecordFault.{RecordFault}
-use Rattle.gtd_report.specs.Run.{IsUnhindered, PutsWhole}
+use Rattle.gtd_report.specs.Run.{HadMemoryAndInput, PutsWhole}
 use Rattle.gtd_report.specs.declared.fault.RunFault.{RunFault}
 use Rattle.gtd_report.specs.declared.fault.RunFault.TheVariants as fault
 use Rattle.gtd_schedule.specs.Shown.{ShowsOpen}
 
--- If neither device failed, no memory was refused and the input did not fall silent: of a restriction file its schedule is
--- printed, whole; any other file prints nothing, and the answer is its first fault.
+-- Of a run whose devices did not fail, if it had memory and input: the schedule of a restriction file is printed, whole; any
+-- other file prints nothing, and the answer is its first fault.
 pub record Headline (vehicle : ℕ) (horizon : Horizon)
     (file before after : Option (List ℕ)) (answer : Result ℕ RunFault) : Type 0 where
-  pub accepted : IsUnhindered answer → IfSome file (λ bytes. (found : List Restriction) → IsFile bytes (Ok found)
+  pub accepted : HadMemoryAndInput answer → IfSome file (λ bytes. (found : List Restriction) → IsFile bytes (Ok found)
       → PutsWhole (ShowsOpen found vehicle horizon) before after answer)
-  pub refused : IsUnhindered answer → IfSome file (λ bytes. (why : RecordFault) → IsFile bytes (Err why)
+  pub refused : HadMemoryAndInput answer → IfSome file (λ bytes. (why : RecordFault) → IsFile bytes (Err why)
       → (answer ≡ Err (fault.Records why)) × Keeps before after)

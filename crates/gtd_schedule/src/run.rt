@@ -4,6 +4,7 @@ ghost use Rattle.std.specs.Prelude.{◌≡◌, ◌<◌, ◌↔◌, ⊤, None, So
 ghost use Rattle.gtd_records.specs.Closing.{Restriction};
 ghost use Rattle.gtd_report.specs.Run.{HasRun, failures_after_read, failures_after_write, IsVehicleType};
 ghost use Rattle.gtd_schedule.specs.Schedule.{IsSchedule};
+ghost use Rattle.gtd_schedule.specs.Shown.{ShowsOpen};
 ghost use Rattle.gtd_schedule.specs.Theorem.{Headline};
 
 use crate::elements::ScheduleLines;
@@ -91,13 +92,15 @@ pub fn run_schedule<I: Input, O: Output>(
 ) -> Result<u64, RunFault>
     requires readable { I.failure_count input.old < u64.MAX }
     requires writable { O.failure_count output.old < u64.MAX }
-    // The headline. If nothing hindered the run: of a restriction file the output took the schedule, and the answer is
-    // the number of its lines; of any other file it took nothing, and the answer is the file's first fault.
-    ensures headline { IsVehicleType vehicle → Headline vehicle horizon
-        (I.to_come input.old) (O.taken output.old) (O.taken output.new) result }
+    // The headline. If neither device counted a failure, and there was memory and input: of a restriction file the output
+    // took the schedule, and the answer is the number of its lines; of any other file it took nothing, and the answer is the
+    // file's first fault.
+    ensures headline { IsVehicleType vehicle
+        → I.failure_count input.new ≡ I.failure_count input.old → O.failure_count output.new ≡ O.failure_count output.old
+        → Headline vehicle horizon (I.to_come input.old) (O.taken output.old) (O.taken output.new) result }
     // What each answer means: after a failure or a refusal of memory, the first bytes of the same schedule.
     ensures stands { HasRun
-        (λ found. ⊤) (λ found lines. IsSchedule found vehicle horizon lines)
+        (λ found. ⊤) (λ found lines. ShowsOpen found vehicle horizon lines)
         (I.to_come input.old) (O.taken output.old) (O.taken output.new) result }
     // An output that took the whole text was then ended, last of all.
     ensures ended { OnOk result (IsTrue (O.is_ended output.new)) }

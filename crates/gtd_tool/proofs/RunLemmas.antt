@@ -9,9 +9,9 @@ use Rattle.gtd_roads.specs.File.{IsOfFile}
 use Rattle.gtd_roads.specs.Closing.{Restriction}
 use Rattle.gtd_roads.specs.RecordFault.{RecordFault}
 use Rattle.gtd_roads.specs.RecordFault.TheVariants as records
-use Rattle.gtd_roads.specs.facts.RunFacts.{apart, same_found}
+use Rattle.gtd_roads.specs.facts.RunFacts.{IsUnhindered as IsRunUnhindered, apart, had_all, none_read, none_written, same_found}
 use Rattle.gtd_roads.specs.Putting.{text_of}
-use Rattle.gtd_roads.specs.Run.{HasRun, TookFirst, IsUnhindered as IsRunUnhindered, failures_after_read}
+use Rattle.gtd_roads.specs.Run.{CountsNone, HadMemoryAndInput, HasRun, TookFirst, failures_after_read, failures_after_write}
 use Rattle.gtd_roads.specs.RunFault.{RunFault}
 use Rattle.gtd_roads.specs.RunFault.TheVariants as run
 use Rattle.gtd_tool.specs.Asked.{Asked}
@@ -133,6 +133,16 @@ module _ (asked : Asked) (file old new : Option (List ℕ)) (silent : Bool) (bef
   free : (ran : Ran asked file old new silent before after result) → IsUnhindered result → IsRunUnhindered ran.answer
   free ran h = unhindered_run ran.answer (subst IsUnhindered ran.outcome h)
 
+  had : (ran : Ran asked file old new silent before after result) → IsUnhindered result → HadMemoryAndInput ran.answer
+  had ran h = had_all ran.answer (free ran h)
+
+  read : (ran : Ran asked file old new silent before after result) → IsUnhindered result → CountsNone (failures_after_read ran.answer)
+  read ran h = none_read ran.answer (free ran h)
+
+  wrote : (ran : Ran asked file old new silent before after result) → IsUnhindered result
+      → CountsNone (failures_after_write ran.answer)
+  wrote ran h = none_written ran.answer (free ran h)
+
   pub ran_accepted : Ran asked file old new silent before after result → IsVehicleInRange asked → IsYearInRange asked
       → IsUnhindered result
       → IfSome file (λ bytes. (found : List Restriction) → IsFile bytes (Ok found) → IsAccepted asked found → IsOk result
@@ -141,7 +151,7 @@ module _ (asked : Asked) (file old new : Option (List ℕ)) (silent : Bool) (bef
       let whole = put found is accepted in
       let done : result ≡ Ok tt = ran.outcome ∙ ap outcome_of whole.count in
       (rw done refl, record { lines = whole.lines; is_text = whole.is_text; grown = whole.taken }))
-      (ran.accepted vehicle year (free ran h))
+      (ran.accepted vehicle year (read ran h) (wrote ran h) (had ran h))
 
   pub ran_refused : Ran asked file old new silent before after result → IsVehicleInRange asked → IsYearInRange asked
       → IsUnhindered result
@@ -150,12 +160,12 @@ module _ (asked : Asked) (file old new : Option (List ℕ)) (silent : Bool) (bef
       let answer = (put why is).0 in
       let of_file : IsOfFile why = subst IsRunUnhindered answer (free ran h) in
       ran.outcome ∙ ap outcome_of answer ∙ ap (λ (r : Refusal). Err r) (refusal_of_file why of_file))
-      (ran.refused vehicle year (free ran h))
+      (ran.refused vehicle year (read ran h) (wrote ran h) (had ran h))
 
   pub ran_lacking : Ran asked file old new silent before after result → IsVehicleInRange asked → IsYearInRange asked
       → IsUnhindered result → IfSome file (λ bytes. IsLacking asked bytes → result ≡ Err refusal.NoElement)
   ran_lacking ran vehicle year h = if_some file _ _ (λ bytes put lack.
-      ran.outcome ∙ ap outcome_of (put lack.0 lack.1 lack.2).0) (ran.unnamed vehicle year (free ran h))
+      ran.outcome ∙ ap outcome_of (put lack.0 lack.1 lack.2).0) (ran.unnamed vehicle year (read ran h) (wrote ran h) (had ran h))
 
 module _ (asked : Asked) (old new : Option (List ℕ)) (bytes : List ℕ) where
   no_text : (found : List Restriction) → IsFile bytes (Ok found) → IsAccepted asked found → IsRefusedFile asked bytes → ⊥

@@ -9,7 +9,7 @@ use Rattle.gtd_roads.specs.RecordFault.{RecordFault}
 use Rattle.gtd_roads.specs.RecordFault.TheVariants as records
 use Rattle.gtd_roads.specs.Putting.{text_of}
 use Rattle.gtd_roads.specs.Run.{AcceptedFilesArePut, HasRun, RefusedFilesPutNothing, UnacceptedFilesPutNothing}
-use Rattle.gtd_roads.specs.Run.{failures_after_read}
+use Rattle.gtd_roads.specs.Run.{CountsNone, failures_after_read, failures_after_write}
 use Rattle.gtd_roads.specs.Run as subjects
 use Rattle.gtd_roads.specs.RunFault.{RunFault}
 use Rattle.gtd_roads.specs.RunFault.TheVariants as run
@@ -171,10 +171,13 @@ pub record RanReport (subject : Subject) (Text : List Restriction → List (List
   pub answer : Result ℕ RunFault
   pub outcome : result ≡ outcome_of answer
   pub accepted : subjects.IsVehicleInRange subject → subjects.IsYearInRange subject
+      → CountsNone (failures_after_read answer) → CountsNone (failures_after_write answer)
       → AcceptedFilesArePut (subjects.IsAccepted subject) Text file old new answer
   pub refused : subjects.IsVehicleInRange subject → subjects.IsYearInRange subject
+      → CountsNone (failures_after_read answer) → CountsNone (failures_after_write answer)
       → RefusedFilesPutNothing file old new answer
   pub unnamed : subjects.IsVehicleInRange subject → subjects.IsYearInRange subject
+      → CountsNone (failures_after_read answer) → CountsNone (failures_after_write answer)
       → UnacceptedFilesPutNothing (subjects.IsAccepted subject) file old new answer
   pub stands : HasRun (subjects.IsAccepted subject) Text file old new answer
   pub vehicle : IsErrOf answer run.VehicleRange ↔ (subjects.IsVehicleInRange subject → ⊥)

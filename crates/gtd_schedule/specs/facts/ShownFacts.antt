@@ -1,6 +1,6 @@
 -- The lines that show when elements are open are those of a schedule.
 use Rattle.std.proofs.Common.{◌≡◌, ◌∙◌, ◌↔◌, ◌++◌, ap, refl, sym, ℕ, List, [], ◌∷◌}
-use Rattle.std.specs.Prelude.{Option, Result}
+use Rattle.std.specs.Prelude.{Option, Result, ⊤}
 use Rattle.std.proofs.lemmas.List.{append-nil}
 use Rattle.gtd_core.specs.Seconds.{Interval}
 use Rattle.gtd_core.specs.Whole.{whole}
@@ -9,8 +9,9 @@ use Rattle.gtd_records.specs.Closing.{IsOpen, Restriction}
 use Rattle.gtd_records.specs.declared.direction.Direction.{Direction}
 use Rattle.gtd_records.specs.declared.direction.Direction.TheVariants.{Positive, Negative}
 use Rattle.gtd_report.specs.Putting.{AreElementLines, AreLinesOf}
-use Rattle.gtd_report.specs.Run.{PutsWhole}
+use Rattle.gtd_report.specs.Run.{HasRun, PutsWhole}
 use Rattle.gtd_report.specs.declared.fault.RunFault.{RunFault}
+use Rattle.gtd_report.specs.facts.RunFacts.{run_as}
 use Rattle.gtd_schedule.specs.Schedule.{AreLines, AreSpanLines, IsSchedule}
 use Rattle.gtd_schedule.specs.Shown.{AreInTurn, AreOpenLines, IsSpanLine, ShowsOpen}
 use Rattle.gtd_schedule.specs.facts.NormalLists.{normal-intervals}
@@ -120,3 +121,14 @@ module _ (found : List Restriction) (vehicle : ℕ) (horizon : Horizon) where
       count = put.count;
     }),
   )
+
+-- what a run did is said of either
+pub runs-schedule : (vehicle : ℕ) (horizon : Horizon) (file before after : Option (List ℕ)) (answer : Result ℕ RunFault)
+    → HasRun (λ found. ⊤) (λ found. ShowsOpen found vehicle horizon) file before after answer
+    ↔ HasRun (λ found. ⊤) (λ found. IsSchedule found vehicle horizon) file before after answer
+runs-schedule vehicle horizon file before after answer = (
+  run_as (λ found. ⊤) (λ found. ShowsOpen found vehicle horizon) (λ found. IsSchedule found vehicle horizon)
+      (λ found lines. shows-schedule found vehicle horizon lines) file before after answer,
+  run_as (λ found. ⊤) (λ found. IsSchedule found vehicle horizon) (λ found. ShowsOpen found vehicle horizon)
+      (λ found lines. let shows = shows-schedule found vehicle horizon lines in (shows.1, shows.0)) file before after answer,
+)

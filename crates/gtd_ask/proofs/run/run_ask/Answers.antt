@@ -4,25 +4,30 @@ use Rattle.std.specs.Prelude.{IfSome, Ok}
 use Rattle.gtd_records.specs.declared.fault.RecordFault.TheVariants as records
 use Rattle.gtd_report.specs.declared.fault.RunFault.TheVariants as run
 use Rattle.gtd_ask.specs.declared.fault.QuestionFault.TheVariants as question
-use Rattle.gtd_ask.proofs.AskFacts.{answered_run, asking_run, ended_run, headline_none, headline_run, is_err, not_asked, read_run}
-use Rattle.gtd_ask.proofs.AskFacts.{write_run}
+use Rattle.gtd_ask.proofs.AskFacts.{answered_run, asking_run, ended_run, headline_none, headline_run, is_err, kept_run, not_asked}
+use Rattle.gtd_ask.proofs.AskFacts.{read_run, write_run}
 use Rattle.gtd_ask.specs.Questions.{IsFile}
 use Rattle.gtd_ask.proofs.run.run_ask.Goals as goal
 
 pub returns-in-Err-clause-headline : goal.returns-in-Err-clause-headline
-returns-in-Err-clause-headline g c = headline_none _ _ _ c.in-Err.why c.in-Err.ensures.file
+returns-in-Err-clause-headline g c = λ asked read wrote.
+    headline_none _ _ _ c.in-Err.why _ (sym c.in-Err.ensures.failures ∙ asked) c.in-Err.ensures.file
 
 pub returns-clause-headline : goal.returns-clause-headline
-returns-clause-headline g c =
+returns-clause-headline g c = λ asked read wrote.
     let file : IfSome _ (λ bytes. IsFile bytes (Ok c.as_slice.result.now)) = rw (c.as_slice.ensures.value) c.in-Ok.ensures.file in
     rw (c.answer_for.ensures.value) (headline_run c.as_slice.result.now _ _ _ _ c.run_report.result
-    file (c.run_report.ensures.accepted tt tt) (c.run_report.ensures.refused tt tt))
+    file (c.run_report.ensures.accepted tt tt read wrote) (c.run_report.ensures.refused tt tt read wrote))
 
 pub returns-clause-stands : goal.returns-clause-stands
 returns-clause-stands g c =
     let file : IfSome _ (λ bytes. IsFile bytes (Ok c.as_slice.result.now)) = rw (c.as_slice.ensures.value) c.in-Ok.ensures.file in
     rw (c.answer_for.ensures.value) (answered_run c.as_slice.result.now _ _ _ _ c.run_report.result
     file c.run_report.ensures.stands)
+
+pub returns-clause-kept : goal.returns-clause-kept
+returns-clause-kept g c =
+    rw (c.answer_for.ensures.value) (kept_run c.as_slice.result.now _ _ _ c.run_report.result c.run_report.ensures.stands)
 
 pub returns-clause-ended : goal.returns-clause-ended
 returns-clause-ended g c = rw (c.answer_for.ensures.value) (ended_run c.run_report.result _ c.run_report.ensures.ended)

@@ -3,11 +3,12 @@ use Rattle.std.proofs.Common.{◌∙◌, sym}
 use Rattle.gtd_records.specs.declared.fault.RecordFault.TheVariants as records
 use Rattle.gtd_report.specs.declared.fault.RunFault.TheVariants as run
 use Rattle.gtd_changes.proofs.AnswerFacts.{compared_old, compared_run, ended_run, err_of, headline_old, headline_run, is_err}
-use Rattle.gtd_changes.proofs.AnswerFacts.{new_run, not_old, old_run, write_run}
+use Rattle.gtd_changes.proofs.AnswerFacts.{kept_run, new_run, not_old, old_run, write_run}
 use Rattle.gtd_changes.proofs.run.run_changes_in.Goals as goal
 
 pub returns-in-Err-clause-headline : goal.returns-in-Err-clause-headline
-returns-in-Err-clause-headline g c = λ vehicle. headline_old _ _ _ _ _ _ c.in-Err.why c.in-Err.ensures.file
+returns-in-Err-clause-headline g c = λ vehicle was_read new_read wrote.
+    headline_old _ _ _ _ _ _ c.in-Err.why _ (sym c.in-Err.ensures.failures ∙ was_read) c.in-Err.ensures.file
 
 pub returns-in-Err-clause-stands : goal.returns-in-Err-clause-stands
 returns-in-Err-clause-stands g c =
@@ -16,16 +17,23 @@ returns-in-Err-clause-stands g c =
     (g.O.Output.taken c.args.output.now) c.in-Err.why c.in-Err.ensures.file
 
 pub returns-clause-headline : goal.returns-clause-headline
-returns-clause-headline g c = λ vehicle.
+returns-clause-headline g c = λ vehicle was_read new_read wrote.
     rw (c.answer_for.ensures.value)
     (headline_run c.args.asked.form c.args.asked.vehicle c.args.asked.horizon c.in-Ok.records _ _ _ _ c.run_report.result
-    c.in-Ok.ensures.file (c.run_report.ensures.accepted vehicle tt) (c.run_report.ensures.refused vehicle tt))
+    c.in-Ok.ensures.file (c.run_report.ensures.accepted vehicle tt new_read wrote)
+    (c.run_report.ensures.refused vehicle tt new_read wrote))
 
 pub returns-clause-stands : goal.returns-clause-stands
 returns-clause-stands g c =
     rw (c.answer_for.ensures.value)
     (compared_run c.args.asked.form c.args.asked.vehicle c.args.asked.horizon c.in-Ok.records _ _ _ _ c.run_report.result
     c.in-Ok.ensures.file c.run_report.ensures.stands)
+
+pub returns-clause-kept : goal.returns-clause-kept
+returns-clause-kept g c =
+    rw (c.answer_for.ensures.value)
+    (kept_run c.args.asked.form c.args.asked.vehicle c.args.asked.horizon c.in-Ok.records _ _ _ c.run_report.result
+    c.run_report.ensures.stands)
 
 pub returns-clause-ended : goal.returns-clause-ended
 returns-clause-ended g c = rw (c.answer_for.ensures.value) (ended_run c.run_report.result _ c.run_report.ensures.ended)

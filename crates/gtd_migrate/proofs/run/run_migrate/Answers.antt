@@ -3,5 +3,6 @@ use Rattle.gtd_migrate.proofs.ClaimFacts.{migration_claim}
 use Rattle.gtd_migrate.proofs.run.run_migrate.Goals as goal
 
 pub returns-clause-claim : goal.returns-clause-claim
-returns-clause-claim g c =
-    migration_claim _ _ _ _ (c.run_report.ensures.accepted tt tt) (c.run_report.ensures.refused tt tt)
+returns-clause-claim g c = λ read wrote.
+    let e = c.run_report.ensures in
+    migration_claim _ _ _ _ (e.accepted tt tt read wrote) (e.refused tt tt read wrote)

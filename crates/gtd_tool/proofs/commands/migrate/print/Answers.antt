@@ -1,5 +1,5 @@
 -- The migration's claims about its output hold for the writer, which the output was lent to.
-use Rattle.std.proofs.Common.{rules}
+use Rattle.std.proofs.Common.{◌∙◌, rules}
 use Rattle.gtd_tool.proofs.ClaimLemmas.{accepted_passed, none_unnamed, of_migration, refused_passed}
 use Rattle.gtd_tool.proofs.LoanLemmas.{loan_passes, passed_run}
 use Rattle.gtd_tool.proofs.commands.migrate.print.Goals as goal
@@ -13,9 +13,13 @@ returns g c =
       ran = λ file. record {
         answer = answer;
         outcome = c.outcome.ensures.value;
-        accepted = λ vehicle year. accepted_passed _ _ _ _ pass _ answer _ _ (of_migration _ _ _ answer e.claim);
-        refused = λ vehicle year. refused_passed _ _ _ _ pass _ answer e.claim.refused;
-        unnamed = λ vehicle year. none_unnamed _ _ _ answer;
+        accepted = λ vehicle year read wrote.
+            let claim = e.claim (e.read_faults ∙ read _) (e.write_faults ∙ wrote _) in
+            accepted_passed _ _ _ _ pass _ answer _ _ (of_migration _ _ _ answer claim);
+        refused = λ vehicle year read wrote.
+            let claim = e.claim (e.read_faults ∙ read _) (e.write_faults ∙ wrote _) in
+            refused_passed _ _ _ _ pass _ answer claim.refused;
+        unnamed = λ vehicle year read wrote. none_unnamed _ _ _ answer;
         stands = passed_run _ _ _ _ _ _ pass answer _ e.stands;
         vehicle = ((λ is. absurd (e.vehicle is)), (λ out. absurd (out tt)));
         year = ((λ is. absurd (e.year is)), (λ out. absurd (out.1 tt)));

@@ -1,5 +1,6 @@
 -- The schedule's claims about its output hold for the writer, which the output was lent to.
-use Rattle.std.proofs.Common.{rules}
+use Rattle.std.proofs.Common.{◌∙◌, rules}
+use Rattle.gtd_roads.specs.facts.ShownFacts.{runs-schedule}
 use Rattle.gtd_tool.proofs.ClaimLemmas.{accepted_passed, none_unnamed, of_headline, refused_passed}
 use Rattle.gtd_tool.proofs.LoanLemmas.{loan_passes, passed_run}
 use Rattle.gtd_tool.proofs.commands.schedule.print.Goals as goal
@@ -13,11 +14,15 @@ returns g c =
       ran = λ file. record {
         answer = answer;
         outcome = c.outcome.ensures.value;
-        accepted = λ vehicle year. accepted_passed _ _ _ _ pass _ answer _ _
-            (of_headline _ _ _ answer c.args.vehicle c.args.horizon (e.headline vehicle));
-        refused = λ vehicle year. refused_passed _ _ _ _ pass _ answer (e.headline vehicle).refused;
-        unnamed = λ vehicle year. none_unnamed _ _ _ answer;
-        stands = passed_run _ _ _ _ _ _ pass answer _ e.stands;
+        accepted = λ vehicle year read wrote.
+            let claim = e.headline vehicle (e.read_faults ∙ read _) (e.write_faults ∙ wrote _) in
+            accepted_passed _ _ _ _ pass _ answer _ _ (of_headline _ _ _ answer c.args.vehicle c.args.horizon claim);
+        refused = λ vehicle year read wrote.
+            let claim = e.headline vehicle (e.read_faults ∙ read _) (e.write_faults ∙ wrote _) in
+            refused_passed _ _ _ _ pass _ answer claim.refused;
+        unnamed = λ vehicle year read wrote. none_unnamed _ _ _ answer;
+        stands = passed_run _ _ _ _ _ _ pass answer _
+            ((runs-schedule c.args.vehicle c.args.horizon _ _ _ answer).0 e.stands);
         vehicle = e.vehicle;
         year = ((λ is. absurd (e.year is)), (λ out. absurd (out.1 tt)));
         element = e.element;
