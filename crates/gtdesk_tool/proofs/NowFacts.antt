@@ -85,8 +85,8 @@ module _ (query : Query) (path : List ℕ) (file taken : Option (List ℕ)) (sil
   no_memory type is = record {
     answer = Err (run.Records records.NoMemory);
     outcome = is;
-    accepted = λ asked free. absurd free;
-    refused = λ asked free. absurd free;
+    accepted = λ asked read wrote had. absurd had;
+    refused = λ asked read wrote had. absurd had;
     stands = (Keeps-refl taken, (λ free. absurd free));
     vehicle_known = tt;
     noted = (Keeps-refl told, refl);

@@ -2,7 +2,8 @@
 use Rattle.std.specs.Prelude.{◌≡◌, ℕ, ◌+◌, Bool, List, Option, Result, Ok, Err, IsErrOf, IsTrue, OnOk}
 use Rattle.gtd_records.specs.declared.fault.RecordFault.TheVariants as records
 use Rattle.gtd_report.specs.declared.fault.RunFault.TheVariants as run
-use Rattle.gtd_ask.specs.Run.{HasAnswered, HeadlineOf}
+use Rattle.gtd_report.specs.Run.{CountsNone}
+use Rattle.gtd_ask.specs.Run.{HasAnswered, HeadlineOf, failures_after_asking, failures_after_read, failures_after_write}
 use Rattle.gtd_ask.specs.declared.fault.AskFault.{AskFault}
 use Rattle.gtd_ask.specs.declared.fault.AskFault.TheVariants as ask
 use Rattle.gtd_ask.specs.declared.fault.QuestionFault.TheVariants as question
@@ -24,7 +25,8 @@ pub record RanAsk (questions told before after : Option (List ℕ)) (questions_s
     (result : Result Ending RunRefusal) : Type 0 where
   pub answer : Result ℕ AskFault
   pub outcome : result ≡ ask_outcome answer
-  pub headline : HeadlineOf questions told before after answer
+  pub headline : CountsNone (failures_after_asking answer) → CountsNone (failures_after_read answer)
+      → CountsNone (failures_after_write answer) → HeadlineOf questions told before after answer
   pub stands : HasAnswered questions told before after answer
   pub whole : OnOk answer (IsTrue ended)
   pub vehicle : IsErrOf answer (ask.Run run.VehicleRange) → ⊥

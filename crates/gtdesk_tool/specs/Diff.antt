@@ -2,9 +2,10 @@
 use Rattle.std.specs.Prelude.{◌≡◌, ◌↔◌, ℕ, ◌+◌, Bool, true, false, List, Option, Result, Ok, Err, IsErrOf, IsTrue, OnOk}
 use Rattle.std.specs.Prelude.{if◌then◌else◌, nat_le}
 use Rattle.gtd_records.specs.declared.fault.RecordFault.TheVariants as records
-use Rattle.gtd_report.specs.Run.{IsVehicleType}
+use Rattle.gtd_report.specs.Run.{CountsNone, IsVehicleType}
 use Rattle.gtd_report.specs.declared.fault.RunFault.TheVariants as run
 use Rattle.gtd_changes.specs.Run.{HasComparedIn, HeadlineIn}
+use Rattle.gtd_changes.specs.Run as counted
 use Rattle.gtd_changes.specs.declared.fault.ChangesFault.{ChangesFault}
 use Rattle.gtd_changes.specs.declared.fault.ChangesFault.TheVariants as changes
 use Rattle.gtd_changes.specs.declared.form.Form.{Form}
@@ -34,7 +35,8 @@ pub record RanDiff (plan : DiffPlan) (old new before after : Option (List ℕ)) 
     (result : Result Ending RunRefusal) : Type 0 where
   pub answer : Result ℕ ChangesFault
   pub outcome : result ≡ diff_outcome answer
-  pub headline : IsVehicleType plan.vehicle
+  pub headline : IsVehicleType plan.vehicle → CountsNone (counted.failures_after_old answer)
+      → CountsNone (counted.failures_after_new answer) → CountsNone (counted.failures_after_write answer)
       → HeadlineIn (form_of plan.rows plan.summary) plan.vehicle plan.horizon old new before after answer
   pub stands : HasComparedIn (form_of plan.rows plan.summary) plan.vehicle plan.horizon old new before after answer
   pub whole : OnOk answer (IsTrue ended)

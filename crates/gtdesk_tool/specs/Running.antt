@@ -7,8 +7,9 @@ use Rattle.gtd_words.specs.Words.{words_in}
 use Rattle.gtd_records.specs.declared.fault.RecordFault.TheVariants as records
 use Rattle.gtd_core.specs.declared.domain.Domain.{Domain}
 use Rattle.gtd_records.specs.Closing.{Restriction}
-use Rattle.gtd_report.specs.Run.{AcceptedFilesArePut, HasRun, IsTableYear, IsVehicleType, RefusedFilesPutNothing}
-use Rattle.gtd_report.specs.Run.{UnacceptedFilesPutNothing}
+use Rattle.gtd_report.specs.Run.{AcceptedFilesArePut, CountsNone, HasRun, IsTableYear, IsVehicleType}
+use Rattle.gtd_report.specs.Run.{RefusedFilesPutNothing, UnacceptedFilesPutNothing}
+use Rattle.gtd_report.specs.Run as report
 use Rattle.gtd_picture.specs.Domain.{HasPut, IsDomainSeen}
 use Rattle.gtd_picture.specs.Open.{IsOpenSeen}
 use Rattle.gtdesk_tool.specs.Hours.{IsHoursLine}
@@ -78,8 +79,11 @@ pub record RanNow (query : Query) (path : List ℕ) (file old new : Option (List
   pub answer : Result Shown RunFault
   pub outcome : result ≡ outcome_of (entries_of answer)
   pub accepted : IsVehicleType query.vehicle
+      → CountsNone (report.failures_after_read answer) → CountsNone (report.failures_after_write answer)
       → AcceptedFilesArePut (λ found. ⊤) (λ found. IsNowOf file found query) file old new (entries_of answer)
-  pub refused : IsVehicleType query.vehicle → RefusedFilesPutNothing file old new (entries_of answer)
+  pub refused : IsVehicleType query.vehicle
+      → CountsNone (report.failures_after_read answer) → CountsNone (report.failures_after_write answer)
+      → RefusedFilesPutNothing file old new (entries_of answer)
   pub stands : HasRun (λ found. ⊤) (λ found. IsNowOf file found query) file old new (entries_of answer)
   pub vehicle_known : TellsVehicle query.vehicle file answer
   pub noted : IsNoted (vehicle_note path query.vehicle) errors answer
@@ -100,11 +104,16 @@ pub record RanPicture (subject : PictureSubject) (title : List ℕ) (file old ne
     (result : Result Ending RunRefusal) : Type 0 where
   pub answer : Result ℕ RunFault
   pub outcome : result ≡ picture_outcome answer
-  pub accepted : IsVehicleType subject.vehicle → IsTableYear subject.year → AcceptedFilesArePut (IsNamed subject.element)
+  pub accepted : IsVehicleType subject.vehicle → IsTableYear subject.year
+      → CountsNone (report.failures_after_read answer) → CountsNone (report.failures_after_write answer)
+      → AcceptedFilesArePut (IsNamed subject.element)
       (λ found lines. IsOpenSeen found subject.element subject.direction subject.vehicle title subject.year lines)
       file old new answer
-  pub refused : IsVehicleType subject.vehicle → IsTableYear subject.year → RefusedFilesPutNothing file old new answer
+  pub refused : IsVehicleType subject.vehicle → IsTableYear subject.year
+      → CountsNone (report.failures_after_read answer) → CountsNone (report.failures_after_write answer)
+      → RefusedFilesPutNothing file old new answer
   pub unnamed : IsVehicleType subject.vehicle → IsTableYear subject.year
+      → CountsNone (report.failures_after_read answer) → CountsNone (report.failures_after_write answer)
       → UnacceptedFilesPutNothing (IsNamed subject.element) file old new answer
   pub stands : HasRun (IsNamed subject.element)
       (λ found lines. IsOpenSeen found subject.element subject.direction subject.vehicle title subject.year lines)

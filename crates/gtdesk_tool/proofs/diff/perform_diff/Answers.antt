@@ -1,4 +1,4 @@
-use Rattle.std.proofs.Common.{subst}
+use Rattle.std.proofs.Common.{◌∙◌, subst}
 use Rattle.gtd_changes.specs.Run.{HasComparedIn, HeadlineIn}
 use Rattle.gtd_changes.specs.declared.form.Form.{Form}
 use Rattle.gtdesk_tool.specs.Diff.{failures_after_new, failures_after_old}
@@ -21,8 +21,9 @@ returns-clause-ran g c =
     record {
       answer = answer;
       outcome = c.diff_outcome.ensures.value;
-      headline = λ vehicle.
-          subst (λ (f : Form). HeadlineIn f plan.vehicle plan.horizon old new before after answer) form (ran.headline vehicle);
+      headline = λ vehicle was_read new_read wrote.
+          subst (λ (f : Form). HeadlineIn f plan.vehicle plan.horizon old new before after answer) form (ran.headline vehicle
+          (ran.old_faults ∙ was_read _) (ran.new_faults ∙ new_read _) (ran.write_faults ∙ wrote _));
       stands = subst (λ (f : Form). HasComparedIn f plan.vehicle plan.horizon old new before after answer) form ran.stands;
       whole = ran.ended;
       vehicle_range = ran.vehicle;

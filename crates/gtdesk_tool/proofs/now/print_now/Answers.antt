@@ -27,8 +27,8 @@ returns-clause-ran g c =
     record {
       answer = c.run_now-answer.result;
       outcome = c.now_outcome.ensures.value;
-      accepted = e.accepted;
-      refused = e.refused;
+      accepted = λ type read wrote. e.accepted type (e.read_faults ∙ read _) (e.write_faults ∙ wrote _);
+      refused = λ type read wrote. e.refused type (e.read_faults ∙ read _) (e.write_faults ∙ wrote _);
       stands = e.stands;
       vehicle_known = e.vehicle_known;
       noted = rw (c.as_str.ensures.value, c.in-Ok.ensures.note) at c.tell_note.ensures.noted;
