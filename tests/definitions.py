@@ -316,17 +316,18 @@ def bounds(path, function):
     return dict(re.findall(r"(\w+): (\w+)", head.group(1))) if head else {}
 
 
-def clauses_that_name(item, member):
-    """A function of a trait with those of its clauses that name the ghost member, or nothing if none does."""
+def clauses_that_name(item, members):
+    """A function of a trait with those of its clauses that name one of the ghost members, or nothing if none does."""
     at = [number for number, line in enumerate(item) if re.match(r"^\s+(requires|ensures)\b", line)]
     parts = [item[begin:end] for begin, end in zip(at, at[1:] + [len(item)])]
-    naming = [part for part in parts if re.search(r"\b%s\b" % member, "\n".join(part))]
+    naming = [part for part in parts if re.search(r"\b(?:%s)\b" % members, "\n".join(part))]
     lines = [line for part in naming for line in part]
     return item[:at[0]] + lines if naming else []
 
 
-def trait_member(trait, member):
-    """A ghost member of a trait of this repository, with those clauses of the trait's functions that name it; or None."""
+def trait_members(trait, names):
+    """These ghost members of a trait of this repository, with those clauses of the trait's functions that name one; or None."""
+    members = "|".join(names)
     for path in sorted(glob.glob(os.path.join(CRATES, "*", "src", "*.rt"))):
         lines = open(path, encoding="utf-8").read().split("\n")
         for first, line in enumerate(lines):
@@ -335,11 +336,11 @@ def trait_member(trait, member):
             body = "\n".join(lines[first + 1:lines.index("}", first)])
             found = [line]
             for item in (part.split("\n") for part in body.split("\n\n")):
-                if re.search(r"^\s+ghost %s:" % member, "\n".join(item), re.M):
+                if re.search(r"^\s+ghost (?:%s):" % members, "\n".join(item), re.M):
                     found += item
                 elif re.search(r"^\s+fn ", "\n".join(item), re.M):
-                    found += clauses_that_name(item, member)
-            return Definition("%s.%s" % (trait, member), os.path.relpath(path, TOP), first + 1, found + ["}"])
+                    found += clauses_that_name(item, members)
+            return Definition(trait, os.path.relpath(path, TOP), first + 1, found + ["}"])
     return None
 
 
@@ -349,8 +350,11 @@ def statement_of(crate, file, function, clauses):
     path = os.path.join(CRATES, crate, file)
     text = "\n".join(line for name in clauses for line in clause(path, function, name) if not line.strip().startswith("//"))
     traits = bounds(path, function)
+    members = {}
     for parameter, member in dict.fromkeys(re.findall(r"\b([A-Z])\.(\w+)", text)):
-        definition = trait_member(traits[parameter], member)
+        members.setdefault(traits[parameter], []).append(member)
+    for trait, names in members.items():
+        definition = trait_members(trait, names)
         if definition:
             statement.add(definition, None)
     statement.follow(text, read_source(path))

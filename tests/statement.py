@@ -1,9 +1,10 @@
 #!/usr/bin/env python3
 """What a reader must believe of the headline: the definitions that it rests on, counted and printed in reading order.
 
-Starts at the clause `headline` of `run_schedule` and follows each name that a definition uses (tests/definitions.py). Counts the
-lines of the definitions, without comments and blank lines, and those of the types, models and traits that they name; and for the
-claims of the other runs what each asks beyond the headline. STATEMENT.txt is the whole statement.
+Starts at the clauses of `run_schedule`, the first of which is `headline`, and follows each name that a definition uses
+(tests/definitions.py). Counts the lines of the definitions, without comments and blank lines, and those of the types, models and
+traits that they name; and for the claims of the other runs what each asks beyond the headline. STATEMENT.txt is the whole
+statement.
 
 Fails if a sum is over its limit; if docs/PROOF.md or README.md tells other numbers; if STATEMENT.txt is something else, or more
 than its pages; if a name is not found; if a definition is among the lemmas, in specs/facts/; or if a file of specs/
@@ -19,7 +20,8 @@ import sys
 
 from definitions import CRATES, TOP, citing_lemmas, clause, statement_of
 
-HEADLINE = ("gtd_schedule", "src/run.rt", "run_schedule", ("headline",))
+HEADLINE = ("gtd_schedule", "src/run.rt", "run_schedule", (
+    "headline", "stands", "ended", "vehicle", "year", "element", "endless", "read_faults", "write_faults"))
 CLAIMS = [
     ("the table of a year", ("gtd_year", "src/run.rt", "run_year", ("claim",))),
     ("a migrated file", ("gtd_migrate", "src/run.rt", "run_migrate", ("claim",))),
@@ -30,7 +32,7 @@ CLAIMS = [
     ("the domain of opening hours", ("gtdesk_tool", "src/text_hours.rt", "print_hours", ("ran",))),
     ("a file of opening hours", ("gtd_hours_file", "src/run.rt", "run_hours_records", ("stands",))),
 ]
-MOST_LINES, MOST_FILES, MOST_WITH_TYPES = 420, 21, 600
+MOST_LINES, MOST_FILES, MOST_WITH_TYPES = 460, 21, 620
 HEAD = os.path.join(TOP, "tests", "statement_head.txt")
 # A page of A4 takes 105 lines of 130 characters in a print of 7 points.
 PAGE_LINES, MOST_PAGES = 105, 12
@@ -131,10 +133,10 @@ def chapter(statement, path, definitions, told):
 
 
 def the_print(statement):
-    """The whole statement, in reading order: the clause, what it says of devices, and each file after those that use it."""
+    """The whole statement, in reading order: the clauses, what devices say, and each file after those that use it."""
     crate, file, function, clauses = HEADLINE
     path = os.path.join(CRATES, crate, file)
-    lines = ["-- " + "=" * 20 + " the clause of " + function + ", crates/%s/%s" % (crate, file)]
+    lines = ["-- " + "=" * 20 + " the clauses of " + function + ", crates/%s/%s" % (crate, file)]
     lines += [line.replace("    ", "", 1) for name in clauses for line in clause(path, function, name)]
     told = set()
     lines += shown_types(types_of(statement, None, told))
