@@ -1,5 +1,5 @@
 -- What is true of the first rows that are like others is true of these.
-use Rattle.std.proofs.Common.{◌≡◌, ◌↔◌, ◌∙◌, subst, ◌<◌, ℕ, List, length, get_or}
+use Rattle.std.proofs.Common.{◌≡◌, ◌↔◌, ◌∙◌, sym, subst, ◌<◌, ℕ, List, length, get_or}
 use Rattle.std.specs.Prelude.{None, slice_index_or}
 use Rattle.gtd_records.specs.Closing.{Restriction}
 use Rattle.gtd_records.specs.declared.direction.Closed.TheVariants.{Both}
@@ -14,7 +14,7 @@ use Rattle.gtd_repeats.proofs.FirstFacts.{same_first}
 use Rattle.gtd_repeats.proofs.ListFacts.{any_default}
 
 -- the row that is taken where there is none
-abbrev nothing : Restriction
+abbrev pub nothing : Restriction
 nothing = record { element = 0; closed = Both; vehicles = Every; domain = None }
 
 module _ (rows : List Restriction) (row other : ℕ) (inside : row < length rows) (placed : other < length rows) where
@@ -40,6 +40,16 @@ module _ (rows : List Restriction) (row other : ℕ) (inside : row < length rows
         same_first (AreAlikeIn rows kind.Row) (likeness rows kind.Row) (length rows) firsts are row other inside placed
         (inside, placed, same)
 
+    -- and rows with the same first row say the same
+    pub of_one_same : get_or firsts row 0 ≡ get_or firsts other 0 → IsSameRow (row_at rows row) (row_at rows other)
+    of_one_same e =
+        let l = likeness rows kind.Row in
+        let first = get_or firsts row 0 in
+        let a = (are.each row inside).alike in
+        let b = (are.each other placed).alike in
+        (l.transitive row first other (l.symmetric first row a)
+        (subst (λ (n : ℕ). AreAlikeIn rows kind.Row n other) (sym e) b)).2
+
   pub only_within : (r o : Restriction) → r ≡ slice_index_or rows row r → o ≡ slice_index_or rows other o → MayBeWithin r o
       → IsWithinSeconds rows row other → (IsSameRow (row_at rows row) (row_at rows other) → ⊥) → IsWithinOf rows row other
   only_within r o e f may seconds apart =
@@ -52,3 +62,12 @@ module _ (rows : List Restriction) (row other : ℕ) (inside : row < length rows
         within = record { element = is.element; closed = is.closed; vehicles = is.vehicles; seconds = seconds };
         apart = apart;
       }
+
+  pub may_be : (r o : Restriction) → r ≡ slice_index_or rows row r → o ≡ slice_index_or rows other o → IsWithinOf rows row other
+      → MayBeWithin r o
+  may_be r o e f is =
+      let here : row_at rows row ≡ r = sym (e ∙ any_default rows row r nothing inside) in
+      let there : row_at rows other ≡ o = sym (f ∙ any_default rows other o nothing placed) in
+      let w = is.within in
+      subst (λ (x : Restriction). MayBeWithin x o) here (subst (λ (y : Restriction). MayBeWithin (row_at rows row) y) there
+      (record { element = w.element; closed = w.closed; vehicles = w.vehicles }))

@@ -2,6 +2,7 @@
 mod AlikeFacts
 mod AnswerFacts
 mod BucketFacts
+mod EarlyFacts
 mod FindingFacts
 mod FirstFacts
 mod KinFacts
@@ -10,3 +11,4 @@ mod ListFacts
 mod NumberFacts
 mod SpanFacts
 mod TextFacts
+mod WithoutFacts

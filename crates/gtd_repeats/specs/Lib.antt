@@ -2,12 +2,14 @@ pub mod Answers
 pub mod Buckets
 pub mod Findings
 pub mod Firsts
+pub mod Kin
 pub mod Known
 pub mod Listing
 pub mod Numbers
 pub mod Run
 pub mod Sameness
 pub mod Spans
+pub mod Without
 pub use Rattle.gtd_core.specs.Seconds
 pub use Rattle.gtd_core.specs.Parts
 pub use Rattle.gtd_difference.specs.Difference

@@ -1,9 +1,9 @@
 //! Rows, found by a number that like rows share.
 
-ghost use Rattle.std.specs.Prelude.{◌≡◌, ◌<◌, ◌+◌, ℕ, IfOk, OnOk, length};
+ghost use Rattle.std.specs.Prelude.{◌≡◌, ◌<◌, ◌+◌, [], ℕ, IfOk, OnOk, length};
 ghost use Rattle.std.specs.List.{Contains};
 ghost use Rattle.gtd_repeats.specs.Buckets as spec;
-ghost use Rattle.gtd_repeats.specs.Buckets.{IsListed};
+ghost use Rattle.gtd_repeats.specs.Buckets.{IsListed, bucket, with_entry};
 
 use std::alloc::{AllocError, Global};
 
@@ -28,6 +28,7 @@ fn place_of(number: u64) -> usize
 /// Empty buckets.
 pub(crate) fn empty_buckets(alloc: Global) -> Result<Vec<Vec<Entry>>, AllocError>
     ensures many { IfOk result (λ buckets. length buckets.items ≡ 4093) }
+    ensures empty { IfOk result (λ buckets. (number : ℕ) → bucket buckets.items number ≡ []) }
 {
     let mut buckets = Vec::new(alloc);
     for _ in 0..BUCKETS {
@@ -43,6 +44,8 @@ pub(crate) fn add_entry(buckets: &mut Vec<Vec<Entry>>, entry: Entry) -> Result<(
     ensures listed { OnOk result (IsListed buckets.new.items entry.number entry.row) }
     ensures kept { (number row : ℕ) → IsListed buckets.old.items number row
         → OnOk result (IsListed buckets.new.items number row) }
+    ensures buckets { OnOk result ((number : ℕ) → bucket buckets.new.items number
+        ≡ with_entry entry number (bucket buckets.old.items number)) }
 {
     let Some(entries) = buckets.get_mut(place_of(entry.number)) else {
         return Err(AllocError);
@@ -55,6 +58,7 @@ pub(crate) fn add_entry(buckets: &mut Vec<Vec<Entry>>, entry: Entry) -> Result<(
 pub(crate) fn entries_of(buckets: &[Vec<Entry>], number: u64) -> &[Entry]
     requires many { length buckets.now ≡ 4093 }
     ensures listed { (row : ℕ) → IsListed buckets.now number row → Contains result.now (record { number = number; row = row }) }
+    ensures all { result.now ≡ bucket buckets.now number }
 {
     buckets[place_of(number)].as_slice()
 }

@@ -6,8 +6,9 @@ ghost use Rattle.gtd_repeats.specs.Answers.{AreRight};
 ghost use Rattle.gtd_repeats.specs.Findings.{AreFindings, AreGrouped, IsFirstMeaning, IsFirstText, IsSaidOfRow, IsSaidOfText};
 ghost use Rattle.gtd_repeats.specs.Findings.{with_finding};
 ghost use Rattle.gtd_repeats.specs.Firsts.{AreFirsts};
+ghost use Rattle.gtd_repeats.specs.Kin.{AreAllKin, AreKin};
 ghost use Rattle.gtd_repeats.specs.Known.{AreKnown};
-ghost use Rattle.gtd_repeats.specs.Sameness.{AreAlikeIn};
+ghost use Rattle.gtd_repeats.specs.Sameness.{AreAlikeIn, row_at};
 ghost use Rattle.gtd_repeats.specs.declared.alike.Kind.TheVariants as declared;
 
 use crate::alike::{Compared, Kind};
@@ -98,6 +99,7 @@ fn said_of_row(
     requires grouped { AreGrouped all.now.rows.now all.now.meanings.now all.now.sames.now all.now.spans.now }
     requires inside { row < length all.now.rows.now }
     requires right { AreRight all.now.rows.now answers.old.items }
+    requires kin { AreKin all.now.rows.now (length all.now.rows.now) (row_at all.now.rows.now row).element entries.now }
     ensures right { AreRight all.now.rows.now answers.new.items }
     ensures said { IfOk result (IsSaidOfRow all.now.rows.now row) }
 {
@@ -152,6 +154,7 @@ fn findings_by(
     requires grouped { AreGrouped all.now.rows.now all.now.meanings.now all.now.sames.now all.now.spans.now }
     requires texts { AreFirsts (AreAlikeIn all.now.rows.now declared.Text) (length all.now.rows.now) texts.now }
     requires many { length kin.now ≡ 4093 }
+    requires kin { AreAllKin all.now.rows.now (length all.now.rows.now) kin.now }
     ensures findings { IfOk result (λ findings. AreFindings all.now.rows.now findings.items) }
 {
     let mut findings = Vec::new(alloc);

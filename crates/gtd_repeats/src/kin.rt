@@ -1,8 +1,11 @@
 //! The first rows of each element, with which its rows are compared.
 
-ghost use Rattle.std.specs.Prelude.{◌≡◌, ◌<◌, ◌↔◌, IfOk, IfSome, IsTrue, length};
+ghost use Rattle.std.specs.Prelude.{◌≡◌, ◌<◌, ◌+◌, ◌↔◌, List, IfOk, IsTrue, MatchOption, OnOk, length};
+ghost use Rattle.gtd_records.specs.Closing.{Restriction};
 ghost use Rattle.gtd_repeats.specs.Answers.{AreRight, IsWithinSeconds};
-ghost use Rattle.gtd_repeats.specs.Findings.{AreGrouped, IsWithinOf};
+ghost use Rattle.gtd_repeats.specs.Findings.{AreGrouped, IsFirstWithin, IsWithinNone, IsWithinOf};
+ghost use Rattle.gtd_repeats.specs.Kin.{AreAllKin, AreKin, entries_with};
+ghost use Rattle.gtd_repeats.specs.Sameness.{row_at};
 
 use crate::answers::{Answer, is_within_seconds};
 use crate::buckets::{Entry, add_entry, empty_buckets, entries_of};
@@ -15,31 +18,44 @@ use std::alloc::{AllocError, Global};
 /// With how many rows of its element a row is compared.
 const MOST_KIN: usize = 64;
 
-// Whether so many entries have a number that no more are kept.
-fn has_most(entries: &[Entry], number: u64) -> bool {
-    let mut left = MOST_KIN;
-    for entry in entries {
-        if entry.number == number {
-            if left <= 1 {
-                return true;
-            }
-            left -= 1;
+// How many of the entries have a number.
+fn count_of(entries: &[Entry], number: u64) -> usize
+    ensures value { result ≡ entries_with entries.now number }
+{
+    let mut count = 0usize;
+    for kept in entries {
+        if kept.number == number {
+            count += 1;
         }
     }
-    false
+    count
+}
+
+// Adds the next row to those of its element, unless these are 64.
+fn add_kin(kin: &mut Vec<Vec<Entry>>, entry: Entry) -> Result<(), AllocError>
+    requires many { length kin.old.items ≡ 4093 }
+    ensures many { length kin.new.items ≡ 4093 }
+    ensures kin { OnOk result ((rows : List Restriction) → entry.row < length rows
+        → (row_at rows entry.row).element ≡ entry.number → AreAllKin rows entry.row kin.old.items
+        → AreAllKin rows (entry.row + 1) kin.new.items) }
+{
+    let entries = entries_of(kin.as_slice(), entry.number);
+    if count_of(entries, entry.number) >= MOST_KIN {
+        return Ok(());
+    }
+    add_entry(kin, entry)
 }
 
 /// The first rows of each element, at most 64, by its number.
 pub(crate) fn kin_of(alloc: Global, rows: &[Record]) -> Result<Vec<Vec<Entry>>, AllocError>
     ensures many { IfOk result (λ kin. length kin.items ≡ 4093) }
+    ensures kin { IfOk result (λ kin. AreAllKin rows.now (length rows.now) kin.items) }
 {
     let mut kin = empty_buckets(alloc)?;
     for row in 0..rows.len() {
         let record = &rows[row];
         let number = record.element;
-        if !has_most(entries_of(kin.as_slice(), number), number) {
-            add_entry(&mut kin, Entry { number, row })?;
-        }
+        add_kin(&mut kin, Entry { number, row })?;
     }
     Ok(kin)
 }
@@ -126,7 +142,7 @@ fn is_only_within(
     requires other { other < length all.now.rows.now }
     requires right { AreRight all.now.rows.now answers.old.items }
     ensures right { AreRight all.now.rows.now answers.new.items }
-    ensures within { IfOk result (λ is_within. IsTrue is_within → IsWithinOf all.now.rows.now row other) }
+    ensures within { IfOk result (λ is_within. IsTrue is_within ↔ IsWithinOf all.now.rows.now row other) }
 {
     if all.sames[row] == all.sames[other] {
         return Ok(false);
@@ -140,6 +156,32 @@ fn is_only_within(
     is_within_meaning(alloc, all, answers, row, other)
 }
 
+// Whether an entry is of a row of the element that a row is within, and they do not say the same.
+fn is_within_entry(
+    alloc: Global,
+    all: &Grouped<'_>,
+    answers: &mut Vec<Answer>,
+    entry: Entry,
+    row: usize,
+) -> Result<bool, AllocError>
+    requires grouped { AreGrouped all.now.rows.now all.now.meanings.now all.now.sames.now all.now.spans.now }
+    requires inside { row < length all.now.rows.now }
+    requires right { AreRight all.now.rows.now answers.old.items }
+    ensures right { AreRight all.now.rows.now answers.new.items }
+    ensures within { IfOk result (λ is_within. IsTrue is_within
+        ↔ ((entry.number ≡ (row_at all.now.rows.now row).element) × IsWithinOf all.now.rows.now row entry.row)) }
+{
+    let rows = all.rows;
+    let record = &rows[row];
+    if entry.number != record.element {
+        return Ok(false);
+    }
+    if entry.row >= rows.len() {
+        return Ok(false);
+    }
+    is_only_within(alloc, all, answers, row, entry.row)
+}
+
 /// The first of these rows of its element that a row is within.
 pub(crate) fn within_of(
     alloc: Global,
@@ -151,18 +193,14 @@ pub(crate) fn within_of(
     requires grouped { AreGrouped all.now.rows.now all.now.meanings.now all.now.sames.now all.now.spans.now }
     requires inside { row < length all.now.rows.now }
     requires right { AreRight all.now.rows.now answers.old.items }
+    requires kin { AreKin all.now.rows.now (length all.now.rows.now) (row_at all.now.rows.now row).element entries.now }
     ensures right { AreRight all.now.rows.now answers.new.items }
-    ensures within { IfOk result (λ found. IfSome found (IsWithinOf all.now.rows.now row)) }
+    ensures within { IfOk result
+        (λ found. MatchOption found (IsWithinNone all.now.rows.now row) (IsFirstWithin all.now.rows.now row)) }
 {
-    let rows = all.rows;
-    let record = &rows[row];
-    let element = record.element;
     for entry in entries {
-        let other = entry.row;
-        if entry.number == element && other < rows.len() {
-            if is_only_within(alloc, all, answers, row, other)? {
-                return Ok(Some(other));
-            }
+        if is_within_entry(alloc, all, answers, *entry, row)? {
+            return Ok(Some(entry.row));
         }
     }
     Ok(None)
