@@ -5,4 +5,6 @@ mod FieldFacts
 mod MendFacts
 mod PrintFacts
 mod RowsFacts
+mod SoundFacts
 mod TableFacts
+mod TrimFacts
