@@ -4,8 +4,9 @@
 Each rule's row of the tables is told and the two close ones are not, with the words that the tables give. Then come random record
 files, whose warnings the model finds in the expressions of tests/model.py, by the conditions as the page says them, and in their
 seconds. Those of a domain without a year are taken from 35 years, in which the calendar of 28 years comes again; those of one that
-ends by its years from the years that it gives and the two after each, since no duration here is longer than a year. With `--allow` rules are turned off, and with `--at` some rows are over. Of the domains of docs/GALLERY.md and the files of
-examples/ none is warned of. Run it after `rt ci`, which builds the program.
+ends by its years from the years that it gives and the two after each, since no duration here is longer than a year. With
+`--allow` rules are turned off, and with `--at` some rows are over. Of the domains of docs/GALLERY.md and the files of examples/
+none is warned of. Run it after `rt ci`, which builds the program.
 
 Usage: tests/warned.py [COUNT [SEED]]
 """
