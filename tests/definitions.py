@@ -11,6 +11,9 @@ import re
 TOP = os.path.dirname(os.path.dirname(os.path.abspath(__file__)))
 CRATES = os.path.join(TOP, "crates")
 
+# How many characters a line of the print of definitions has at most.
+PRINT_WIDTH = 130
+
 WORD = re.compile(r"[^\s(){}\[\],;.λ]+(?:\.[^\s(){}\[\],;.λ]+)*")
 HEADER = re.compile(r"^(?P<indent> *)(?:abbrev |unfoldable )?(?:pub )?(?:record |data )?(?P<name>[^\s(){}:]+)(?P<rest>.*)$")
 KEYWORDS = {"use", "module", "where", "infix", "infixl", "infixr", "open", "ruleset", "syntax", "mutual", "deriving"}
@@ -321,8 +324,13 @@ def clauses_that_name(item, members):
     at = [number for number, line in enumerate(item) if re.match(r"^\s+(requires|ensures)\b", line)]
     parts = [item[begin:end] for begin, end in zip(at, at[1:] + [len(item)])]
     naming = [part for part in parts if re.search(r"\b(?:%s)\b" % members, "\n".join(part))]
-    lines = [line for part in naming for line in part]
-    return item[:at[0]] + lines if naming else []
+    return item[:at[0]] + [line for part in naming for line in on_one_line(part)] if naming else []
+
+
+def on_one_line(part):
+    """The lines of a clause; one line, if it fits into a line of the print."""
+    joined = part[0] + "".join(" " + line.strip() for line in part[1:])
+    return [joined] if len(joined) <= PRINT_WIDTH else part
 
 
 def trait_members(trait, names):

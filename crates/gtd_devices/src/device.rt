@@ -35,7 +35,8 @@ pub trait Input {
         ensures bytes { TakesOff (to_come self.old) (to_come self.new) result into.new }
         ensures silent { IsGot result 0 → IsTrue (may_fall_silent self.old) }
         ensures as_silent { may_fall_silent self.new ≡ may_fall_silent self.old }
-        ensures failures { failure_count self.new ≡ failures_after_pull result (failure_count self.old) };
+        ensures failures { failure_count self.new
+            ≡ failures_after_pull result (failure_count self.old) };
 
     /// How often the device has failed.
     fn failures(&self) -> u64
@@ -70,14 +71,16 @@ pub trait Output {
         ensures within { IsWithinOffer result (length bytes.now) }
         ensures bytes { AddsFront (taken self.old) (taken self.new) result bytes.now }
         ensures unended { is_ended self.new ≡ false }
-        ensures failures { failure_count self.new ≡ failures_after_put result (failure_count self.old) };
+        ensures failures { failure_count self.new
+            ≡ failures_after_put result (failure_count self.old) };
 
     /// Ends the output: `Took(0)`, or a failure, which is counted. Before the call, the count must be below `u64::MAX`.
     fn finish(&mut self) -> Put
         requires countable { failure_count self.old < u64.MAX }
         ensures bytes { Finishes (taken self.old) (taken self.new) result }
         ensures ended { is_ended self.new ≡ has_ended result }
-        ensures failures { failure_count self.new ≡ failures_after_put result (failure_count self.old) };
+        ensures failures { failure_count self.new
+            ≡ failures_after_put result (failure_count self.old) };
 
     /// How often the device has failed.
     fn failures(&self) -> u64
