@@ -29,19 +29,19 @@ risen : (n : ℕ) → n + 1 ≡ n → ⊥
 risen n e = omega arith
 
 -- a fault of the old file for which no device failed, and for which there was memory and input, is of the file
-of_file : {T : Type 0} (why : RecordFault) (n : ℕ) → failures_after_records {T = T} (Err why) n ≡ n
+of_file : (T : Type 0) (why : RecordFault) (n : ℕ) → failures_after_records {T = T} (Err why) n ≡ n
     → HadMemoryAndInput (Err (fault.Old why)) → IsOfFile why
-of_file records.ReadFault n read had = absurd (risen n read)
-of_file records.Endless n read had = absurd had
-of_file records.NoMemory n read had = absurd had
-of_file records.TooLarge n read had = tt
-of_file records.Header n read had = tt
-of_file (records.FieldCount row) n read had = tt
-of_file (records.Element row) n read had = tt
-of_file (records.Direction row) n read had = tt
-of_file (records.Vehicle row) n read had = tt
-of_file (records.Domain row why) n read had = tt
-of_file records.TooManyRows n read had = tt
+of_file T records.ReadFault n read had = absurd (risen n read)
+of_file T records.Endless n read had = absurd had
+of_file T records.NoMemory n read had = absurd had
+of_file T records.TooLarge n read had = tt
+of_file T records.Header n read had = tt
+of_file T (records.FieldCount row) n read had = tt
+of_file T (records.Element row) n read had = tt
+of_file T (records.Direction row) n read had = tt
+of_file T (records.Vehicle row) n read had = tt
+of_file T (records.Domain row why) n read had = tt
+of_file T records.TooManyRows n read had = tt
 
 module _ (form : Form) (vehicle : ℕ) (horizon : Horizon) (was : List Restriction) where
   abbrev IsText : List Restriction → List (List ℕ) → Type 0
@@ -102,20 +102,20 @@ module _ (form : Form) (vehicle : ℕ) (horizon : Horizon) (was : List Restricti
   kept_run new before after (Err (run.NoMemory n)) ran = tt
 
 -- the headline, of an old file that is not read
-pub headline_old : {T : Type 0} (form : Form) (vehicle : ℕ) (horizon : Horizon) (old new taken : Option (List ℕ))
+pub headline_old : (T : Type 0) (form : Form) (vehicle : ℕ) (horizon : Horizon) (old new taken : Option (List ℕ))
     (why : RecordFault) (n : ℕ) → failures_after_records {T = T} (Err why) n ≡ n
     → IfSome old (λ bytes. IsOfFile why → IsFile bytes (Err why))
     → HeadlineIn form vehicle horizon old new taken taken (Err (fault.Old why))
-headline_old form vehicle horizon None new taken why n read file = tt
-headline_old form vehicle horizon (Some a) None taken why n read file = tt
-headline_old form vehicle horizon (Some a) (Some b) taken why n read file = record {
-  accepted = λ had was found fa fb. absurd (apart a was why fa (file (of_file why n read had)));
+headline_old T form vehicle horizon None new taken why n read file = tt
+headline_old T form vehicle horizon (Some a) None taken why n read file = tt
+headline_old T form vehicle horizon (Some a) (Some b) taken why n read file = record {
+  accepted = λ had was found fa fb. absurd (apart a was why fa (file (of_file T why n read had)));
   old_refused = λ had other fa. (
     ap (λ (w : RecordFault). Err (fault.Old w))
-        (same_fault why other (one_file a (Err why) (Err other) (file (of_file why n read had)) fa)),
+        (same_fault why other (one_file a (Err why) (Err other) (file (of_file T why n read had)) fa)),
     Keeps-refl taken,
   );
-  new_refused = λ had was other fa fb. absurd (apart a was why fa (file (of_file why n read had)));
+  new_refused = λ had was other fa fb. absurd (apart a was why fa (file (of_file T why n read had)));
 }
   where
     same_fault : (x y : RecordFault) → ◌≡◌ {A = Result (List Restriction) RecordFault} (Err x) (Err y) → x ≡ y

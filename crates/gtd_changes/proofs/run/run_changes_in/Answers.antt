@@ -1,5 +1,6 @@
 -- The old file's first fault comes before the new one is read; two accepted files have the text of the form asked for.
 use Rattle.std.proofs.Common.{◌∙◌, sym}
+use Rattle.gtd_records.specs.contracts.index.Records.{the_row as row}
 use Rattle.gtd_records.specs.declared.fault.RecordFault.TheVariants as records
 use Rattle.gtd_report.specs.declared.fault.RunFault.TheVariants as run
 use Rattle.gtd_changes.proofs.AnswerFacts.{compared_old, compared_run, ended_run, err_of, headline_old, headline_run, is_err}
@@ -8,7 +9,7 @@ use Rattle.gtd_changes.proofs.run.run_changes_in.Goals as goal
 
 pub returns-in-Err-clause-headline : goal.returns-in-Err-clause-headline
 returns-in-Err-clause-headline g c = λ vehicle was_read new_read wrote.
-    headline_old _ _ _ _ _ _ c.in-Err.why _ (sym c.in-Err.ensures.failures ∙ was_read) c.in-Err.ensures.file
+    headline_old row.Denot _ _ _ _ _ _ c.in-Err.why _ (sym c.in-Err.ensures.failures ∙ was_read) c.in-Err.ensures.file
 
 pub returns-in-Err-clause-stands : goal.returns-in-Err-clause-stands
 returns-in-Err-clause-stands g c =
