@@ -469,6 +469,20 @@ expect 'no table' 1 '' 'gtdesk: means.csv: Header'
 run conditions --holidays - --years 2026 - means.csv < days.csv
 expect 'standard input twice' 2 '' 'gtdesk: command line: standard input is given more than once (see gtdesk --help)'
 
+# Tags with two rows for each element: as many rows as a record file may have, which is accepted, and then one more.
+printf 'kind,name,means\nmode,access,0\ncondition,hazmat,13\n' > means.csv
+{ printf 'element,key,value\n'; seq 32768 | sed 's/$/,access:conditional,no @ (10:00-12:00); no @ hazmat/'; } > tags.csv
+"$program" conditions tags.csv means.csv > rows.csv 2> err
+status=$?
+{ wc -l < rows.csv; tail -n 2 rows.csv; } > out
+expect 'the most rows of tags' 0 $'65537\n32768,both,!13,[[(h0m0){d1}]*[(h10m0){m120}]]\n32768,both,13,' ''
+run faults rows.csv
+expect 'the most rows of tags are a record file' 0 '' ''
+printf '32769,access,no\n' >> tags.csv
+run conditions tags.csv means.csv
+expect 'too many rows of tags' 1 '' \
+    'gtdesk: tags.csv: TooManyRows: the record file would have 65537 rows; at most 65536 are accepted'
+
 # Outputs that fail.
 : > out
 "$program" now a.csv 2024-04-01T10:00:00 11 > /dev/full 2> err

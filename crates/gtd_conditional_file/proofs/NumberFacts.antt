@@ -1,11 +1,14 @@
 -- The vehicle types of a set, in ascending order.
 use Rattle.std.proofs.Common.{◌≡◌, ◌<◌, ◌≤◌, ◌+◌, ◌⊎◌, arith, rules, get_or, inl, inr, length, length-append, subst, sym}
-use Rattle.std.proofs.Common.{ℕ, Bool, true, false, List, [], ◌∷◌, ◌++◌}
+use Rattle.std.proofs.Common.{ℕ, zero, suc, Bool, true, false, refl, List, [], ◌∷◌, ◌++◌}
 use Rattle.std.specs.Prelude.{IsTrue, if◌then◌else◌}
 use Rattle.std.specs.List.{Contains}
 use Rattle.std.specs.List.Sorted.{IsStrictlyIncreasing}
 use Rattle.std.proofs.lemmas.Grind.{common_steps}
 use Rattle.std.proofs.lemmas.List.Elements.{Contains-append_left, Contains-get_or, Contains-push, Contains-push_cases}
+use Rattle.gtd_records.specs.declared.vehicles.Vehicles.TheVariants as vehicles
+use Rattle.gtd_conditional_rows.specs.Flags.{count_true}
+use Rattle.gtd_conditional_rows.specs.Listings.{AreOthers}
 use Rattle.gtd_conditional_rows.specs.Types.{HasType, has_type}
 use Rattle.gtd_conditional_rows.specs.declared.types.Types.{Types}
 use Rattle.gtd_conditional_file.specs.Vehicles.{AreNumbers}
@@ -79,3 +82,32 @@ are_numbers types numbers are = record {
   same = λ t v. ((λ h. (are.only t h).2), (λ has. are.all t v.0 (let last = v.1 in omega arith) has));
   vehicles = λ t h. let o = are.only t h in (o.0, (let last = o.1 in omega arith));
 }
+
+-- ---- the types that a list leaves out
+
+all_true : (xs : List Bool) → ((i : ℕ) → i < length xs → get_or xs i false ≡ true) → count_true xs ≡ length xs
+all_true [] all = refl
+all_true (true ∷ xs) all = let rest = all_true xs (λ i lt. all (suc i) (omega (arith, lt))) in omega (arith, rest)
+all_true (false ∷ xs) all = absurd (let never : false ≡ true = all 0 (omega arith) in cc)
+
+all_had : (xs : List Bool) → length xs ≡ 100 → get_or xs 0 false ≡ false
+    → ((t : ℕ) → 1 ≤ t → t ≤ 99 → get_or xs t false ≡ true) → count_true xs ≡ 99
+all_had [] size first all = absurd (omega (arith, size))
+all_had (true ∷ xs) size first all = absurd (let never : true ≡ false = first in cc)
+all_had (false ∷ xs) size first all =
+    let rest = all_true xs (λ i lt. all (suc i) (omega arith) (omega (arith, lt, size))) in
+    omega (arith, rest, size)
+
+had : (b : Bool) → ((IsTrue b → ⊥) → ⊥) → b ≡ true
+had true lacks = refl
+had false lacks = absurd (lacks (λ e. let never : false ≡ true = e in cc))
+
+-- a set without one of the 99 types leaves some out
+pub some_left_out : (types listed : Types) (codes : List ℕ) → length types.has ≡ 100 → get_or types.has 0 false ≡ false
+    → (count_true types.has ≡ 99 → ⊥) → AreOthers types listed → AreNumbers listed codes
+    → vehicles.AllBut codes ≡ vehicles.AllBut [] → ⊥
+some_left_out types listed codes size first more others numbers none =
+    let empty : codes ≡ [] = cc in
+    more (all_had types.has size first (λ t low high. had (get_or types.has t false) (λ lacks.
+    let h = subst (λ (c : List ℕ). Contains c t) empty ((numbers.same t (low, high)).1 ((others t (low, high)).1 lacks)) in
+    let few = h.1 in omega arith)))

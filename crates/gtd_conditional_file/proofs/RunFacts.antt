@@ -1,10 +1,10 @@
 -- What a run over two files did, by its answer.
-use Rattle.std.proofs.Common.{◌≡◌, ◌∙◌, ◌<◌, ◌+◌, ap, refl, sym, subst, arith, inl, inr, ℕ, List, [], ◌∷◌, length}
+use Rattle.std.proofs.Common.{◌≡◌, ◌∙◌, ◌<◌, ◌≤◌, ◌+◌, ap, refl, sym, subst, arith, inl, inr, ℕ, List, [], ◌∷◌, ◌++◌, length}
 use Rattle.std.proofs.Common.{Option, Some, None}
 use Rattle.std.specs.Prelude.{◌⊎◌, IfSome, Result, Ok, Err, string_bytes}
 use Rattle.std.proofs.lemmas.List.Sorted.{IsNonDecreasingBy-short, IsPermutation-refl}
 use Rattle.std.proofs.KnownBytes.{Keeps-refl}
-use Rattle.gtd_core.specs.Limits.{most_file_bytes}
+use Rattle.gtd_core.specs.Limits.{most_file_bytes, most_rows}
 use Rattle.gtd_migrate.specs.Migrated.{migrated}
 use Rattle.gtd_report.specs.Putting.{Puts, nothing_put, text_of}
 use Rattle.gtd_report.specs.Run.{TookFirst}
@@ -40,13 +40,14 @@ took_first x a b q lines puts =
     (omega arith, rw is at puts.2)
 
 stopped : (how : HowRead) (x : Stop) (means tags : List ℕ) (old new : Option (List ℕ)) (q : Progress) (rows : List ElementRow)
-    → AreRowsOf how means tags rows → PutsRows migrated (Err x) old new nothing_put q rows
+    → AreRowsOf how means tags rows → length rows ≤ most_rows → PutsRows migrated (Err x) old new nothing_put q rows
     → TookFirstRecords how means tags old new q.written
-stopped how x means tags old new q rows files put = record {
+stopped how x means tags old new q rows files few put = record {
   first = put.0;
   rest = put.1;
   found = put.2;
   files = subst (AreRowsOf how means tags) put.3 files;
+  few = subst (λ (all : List ElementRow). length all ≤ most_rows) put.3 few;
   restrictions = put.4;
   took = took_first x old new q (migrated put.2) put.5;
 }
@@ -55,20 +56,28 @@ stopped how x means tags old new q rows files put = record {
 pub has_converted : (how : HowRead) (r : Result (Unit {0}) Stop) (paths : TwoPaths) (means tags : List ℕ)
     (old new : Option (List ℕ))
     (q : Progress) (rows : List ElementRow)
-    → AreRowsOf how means tags rows → PutsRows migrated r old new nothing_put q rows
+    → AreRowsOf how means tags rows → length rows ≤ most_rows → PutsRows migrated r old new nothing_put q rows
     → HasConverted how paths (Some means) (Some tags) old new (answer_of r q)
-has_converted how (Ok x) paths means tags old new q rows files put = record {
+has_converted how (Ok x) paths means tags old new q rows files few put = record {
   rows = rows;
   found = put.0;
   files = files;
+  few = few;
   restrictions = put.1;
   taken = put.2.0;
   counted = ap (λ (t : Progress). t.lines) put.2.1 ∙ none_before (length (migrated put.0));
 }
-has_converted how (Err Output) paths means tags old new q rows files put =
-    stopped how Output means tags old new q rows files put
-has_converted how (Err Memory) paths means tags old new q rows files put =
-    inr (stopped how Memory means tags old new q rows files put)
+has_converted how (Err Output) paths means tags old new q rows files few put =
+    stopped how Output means tags old new q rows files few put
+has_converted how (Err Memory) paths means tags old new q rows files few put =
+    inr (stopped how Memory means tags old new q rows files few put)
+
+-- what a run did with files that stand for too many rows
+pub too_many : (how : HowRead) (paths : TwoPaths) (means tags : List ℕ) (taken : Option (List ℕ)) (n : ℕ) (rows : List ElementRow)
+    → AreRowsOf how means tags rows → n ≡ length rows → most_rows < n
+    → HasConverted how paths (Some means) (Some tags) taken taken (Err (why.TooManyRows n))
+too_many how paths means tags taken n rows files counted many =
+    (Keeps-refl taken, record { rows = rows; files = files; counted = counted; many = many })
 
 -- ---- what an input told
 
@@ -81,6 +90,7 @@ tags_told how paths table bytes (Some all) old new r same has =
     subst (λ (b : List ℕ). HasConverted how paths (Some table) (Some b) old new r) same has
 tags_told how paths table bytes None old new (Ok count) same has = tt
 tags_told how paths table bytes None old new (Err (why.Faults text)) same has = (has.0, inr tt)
+tags_told how paths table bytes None old new (Err (why.TooManyRows n)) same has = (has.0, tt)
 tags_told how paths table bytes None old new (Err why.MeansReadFault) same has = has
 tags_told how paths table bytes None old new (Err why.MeansEndless) same has = has
 tags_told how paths table bytes None old new (Err why.TagsReadFault) same has = has
@@ -136,6 +146,7 @@ large_tags how paths path table rows file taken (why.Faults text) same read more
   inr (large_tags_list how paths.tags table rows (string_bytes text) file read more
       (subst (λ (p : List ℕ). AreLines p [] (of_tags (fault.Row row.TooLarge ∷ [])) (string_bytes text)) (sym same) list)),
 )
+large_tags how paths path table rows file taken (why.TooManyRows n) same read more list = absurd list
 large_tags how paths path table rows file taken why.MeansReadFault same read more list = absurd list
 large_tags how paths path table rows file taken why.MeansEndless same read more list = absurd list
 large_tags how paths path table rows file taken why.TagsReadFault same read more list = absurd list
@@ -160,6 +171,7 @@ pub large_means : (how : HowRead) (paths : TwoPaths) (table file taken : Option 
     → HasConverted how paths table file taken taken (Err answer)
 large_means how paths table file taken (why.Faults text) more list =
     (Keeps-refl taken, large_means_list how paths (string_bytes text) table file more list)
+large_means how paths table file taken (why.TooManyRows n) more list = absurd list
 large_means how paths table file taken why.MeansReadFault more list = absurd list
 large_means how paths table file taken why.MeansEndless more list = absurd list
 large_means how paths table file taken why.TagsReadFault more list = absurd list

@@ -1,6 +1,7 @@
 -- What a run that translates a file of tags did, by its answer.
-use Rattle.std.specs.Prelude.{◌≡◌, ◌≢◌, ◌⊎◌, ℕ, ◌+◌, List, [], ◌++◌, length, string_bytes, Option, IfSome, Result, Ok, Err, ⊤}
+use Rattle.std.specs.Prelude.{◌≡◌, ◌≢◌, ◌⊎◌, ◌<◌, ◌≤◌, ℕ, ◌+◌, List, [], ◌++◌, length, string_bytes, Option, IfSome, Result, Ok, Err, ⊤}
 use Rattle.std.specs.Io.KnownBytes.{Appends, Keeps}
+use Rattle.gtd_core.specs.Limits.{most_rows}
 use Rattle.gtd_hours_options.specs.Readings.{HowRead}
 use Rattle.gtd_conditional_elements.specs.File.{AreOfFile}
 use Rattle.gtd_conditional_elements.specs.declared.fault.ConditionsFault.{ConditionsFault}
@@ -55,23 +56,32 @@ pub record IsTagsList (how : HowRead) (path means tags text : List ℕ) : Type 0
   pub some : faults ≢ []
   pub lines : AreLines path tags (of_tags faults) text
 
+-- The files stand for so many rows, which are more than a record file may have.
+pub record HaveTooManyRows (how : HowRead) (means tags : List ℕ) (count : ℕ) : Type 0 where
+  pub rows : List ElementRow
+  pub files : AreRowsOf how means tags rows
+  pub counted : count ≡ length rows
+  pub many : most_rows < count
+
 -- ---- what the output took
 
--- The output took the record file of the rows that the files stand for, which has so many lines.
+-- The output took the record file of the rows that the files stand for, which are not too many for one; it has so many lines.
 pub record PutsRecords (how : HowRead) (means tags : List ℕ) (old new : Option (List ℕ)) (count : ℕ) : Type 0 where
   pub rows : List ElementRow
   pub found : List Restriction
   pub files : AreRowsOf how means tags rows
+  pub few : length rows ≤ most_rows
   pub restrictions : AreRestrictions rows found
   pub taken : Appends old new (text_of (migrated found))
   pub counted : count ≡ length (migrated found)
 
--- The output took the first n bytes of the header line and the lines of first ones of these rows.
+-- The output took the first n bytes of the header line and the lines of first ones of these rows, which are not too many.
 pub record TookFirstRecords (how : HowRead) (means tags : List ℕ) (old new : Option (List ℕ)) (n : ℕ) : Type 0 where
   pub first : List ElementRow
   pub rest : List ElementRow
   pub found : List Restriction
   pub files : AreRowsOf how means tags (first ++ rest)
+  pub few : length (first ++ rest) ≤ most_rows
   pub restrictions : AreRestrictions first found
   pub took : TookFirst old new n (text_of (migrated found))
 
@@ -87,6 +97,8 @@ HasConverted how paths table file old new (Ok count) =
 HasConverted how paths table file old new (Err (why.Faults text)) =
     Keeps old new × IfSome table (λ means. IsMeansList paths.means means (string_bytes text)
     ⊎ IfSome file (λ tags. IsTagsList how paths.tags means tags (string_bytes text)))
+HasConverted how paths table file old new (Err (why.TooManyRows count)) =
+    Keeps old new × IfBoth table file (λ means tags. HaveTooManyRows how means tags count)
 HasConverted how paths table file old new (Err why.MeansReadFault) = Keeps old new
 HasConverted how paths table file old new (Err why.MeansEndless) = Keeps old new
 HasConverted how paths table file old new (Err why.TagsReadFault) = Keeps old new

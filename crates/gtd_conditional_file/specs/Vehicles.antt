@@ -1,5 +1,5 @@
 -- The vehicle types of a row, as a record file names them.
-use Rattle.std.specs.Prelude.{◌↔◌, ⊤, ℕ, List}
+use Rattle.std.specs.Prelude.{◌≡◌, ◌↔◌, ⊤, ℕ, List, []}
 use Rattle.std.specs.List.{Contains}
 use Rattle.std.specs.List.Sorted.{IsStrictlyIncreasing}
 use Rattle.gtd_records.specs.Closing.{Serves}
@@ -24,10 +24,11 @@ IsNamedAs (listing.Only types) (vehicles.Only codes) = AreNumbers types codes
 IsNamedAs (listing.AllBut types) (vehicles.AllBut codes) = AreNumbers types codes
 IsNamedAs listed named = ⊥
 
--- The types of a set as a record file names them: all; a list, if they are at most 49; else all except a list. Exactly the types
--- of the set are named.
+-- The types of a set as a record file names them: all; a list, if they are at most 49; else all except a list, which is not
+-- empty. Exactly the types of the set are named.
 pub record AreNamed (types : Types) (named : Vehicles) : Type 0 where
   pub listed : Listing
   pub listing : IsListing types listed
   pub written : IsNamedAs listed named
   pub same : (t : ℕ) → IsVehicle t → Serves named t ↔ HasType types t
+  pub some_other : named ≡ vehicles.AllBut [] → ⊥

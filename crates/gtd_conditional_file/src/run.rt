@@ -2,6 +2,7 @@
 
 ghost use Rattle.std.specs.Prelude.{◌≡◌, ◌≤◌, ◌<◌, ℕ, [], List, Ok, Some, IfErr, IfOk, IsErrOf, IsTrue, OnOk, length};
 ghost use Rattle.gtd_conditional_means.specs.Table.{IsTable};
+ghost use Rattle.gtd_core.specs.Limits.{most_rows};
 ghost use Rattle.gtd_conditional_file.specs.Run as spec;
 ghost use Rattle.gtd_conditional_file.specs.Run.{HasConverted, lines_of};
 ghost use Rattle.gtd_conditional_file.specs.Warned.{IsWarned};
@@ -15,7 +16,7 @@ use crate::unconverted::Unconverted;
 use gtd_conditional_elements::{ConditionsFault, ElementRow, read_elements};
 use gtd_conditional_means::{Means, MeansFault, Unread, read_means};
 use gtd_conditional_tags::TagsFault;
-use gtd_core::limits::MOST_FILE_BYTES;
+use gtd_core::limits::{MOST_FILE_BYTES, MOST_ROWS};
 use gtd_devices::{Input, InputFault, Output, read_whole};
 use gtd_report::{Progress, Stop};
 use std::alloc::Global;
@@ -35,14 +36,14 @@ fn answer(put: Result<(), Stop>, progress: Progress) -> Result<u64, Unconverted>
     }
 }
 
-// Puts the record file of the rows of a file's elements.
-fn put_sound<O: Output>(
+// Puts the record file of the rows of a file's elements, which are not too many for one.
+fn put_few<O: Output>(
     alloc: Global,
     output: &mut O,
     rows: &[ElementRow],
 ) -> Result<u64, Unconverted>
     requires writable { O.failure_count output.old < u64.MAX }
-    requires few { length rows.now ≤ 4294967295 }
+    requires few { length rows.now ≤ most_rows }
     ensures stands { (how : HowRead) (paths : spec.TwoPaths) (means tags : List ℕ) → spec.AreRowsOf how means tags rows.now
         → HasConverted how paths (Some means) (Some tags) (O.taken output.old) (O.taken output.new) result }
     ensures cause { IfErr result spec.IsPutStop }
@@ -53,6 +54,29 @@ fn put_sound<O: Output>(
     let mut progress = Progress::new();
     let put = put_records(alloc, output, &mut progress, rows);
     answer(put, progress)
+}
+
+// Puts the record file of the rows of a file's elements, if they are not too many for one.
+#[tactic(auto, using(crate::proofs::RunFacts::too_many))]
+fn put_sound<O: Output>(
+    alloc: Global,
+    output: &mut O,
+    rows: &[ElementRow],
+) -> Result<u64, Unconverted>
+    requires writable { O.failure_count output.old < u64.MAX }
+    ensures stands { (how : HowRead) (paths : spec.TwoPaths) (means tags : List ℕ) → spec.AreRowsOf how means tags rows.now
+        → HasConverted how paths (Some means) (Some tags) (O.taken output.old) (O.taken output.new) result }
+    ensures cause { IfErr result spec.IsPutStop }
+    ensures ended { OnOk result (IsTrue (O.is_ended output.new)) }
+    ensures failures { O.failure_count output.new
+        ≡ spec.failures_after_putting result (O.failure_count output.old) }
+{
+    if rows.len() > MOST_ROWS as usize {
+        return Err(Unconverted::TooManyRows {
+            rows: rows.len() as u64,
+        });
+    }
+    put_few(alloc, output, rows)
 }
 
 // The answer of a run with these warnings.
@@ -179,8 +203,9 @@ fn run_with<I: Input, O: Output>(
 ///
 /// Errors, in their order: `MeansReadFault`, `MeansEndless` or `NoMemory` while the table is read; `Faults` if it is at fault,
 /// before the file of tags is pulled; `TagsReadFault`, `TagsEndless` or `NoMemory` while that is read; `Faults` if it or a value
-/// in it is at fault; then `WriteFault` or `NoMemory`, whichever happens first. `Faults` has the list of all faults, and nothing
-/// is put then. Before the call, the failures of the three devices must be below `u64::MAX`.
+/// in it is at fault; `TooManyRows` if the record file would have more than 65,536 rows; then `WriteFault` or `NoMemory`, whichever
+/// happens first. `Faults` has the list of all faults, and nothing is put then, nor after `TooManyRows`. Before the call, the
+/// failures of the three devices must be below `u64::MAX`.
 pub fn run_conditions<I: Input, J: Input, O: Output>(
     alloc: Global,
     tags: &mut I,
@@ -191,9 +216,11 @@ pub fn run_conditions<I: Input, J: Input, O: Output>(
     requires readable { I.failure_count tags.old < u64.MAX }
     requires means_readable { J.failure_count means.old < u64.MAX }
     requires writable { O.failure_count output.old < u64.MAX }
-    // What each answer means. The number of lines: the output took the record file of the rows that the two files stand for.
-    // `Faults`: the text lists all faults of the table of means, or, if it has none, of the file of tags, and nothing was put.
-    // `WriteFault`, or `NoMemory` after both files were read: the output took a first part of the lines of the first rows.
+    // What each answer means. The number of lines: the output took the record file of the rows that the two files stand for,
+    // which are at most 65,536. `TooManyRows`: they are more, exactly as many as it gives, and nothing was put. `Faults`: the text
+    // lists all faults of the table of means, or, if it has none, of the file of tags, and nothing was put. `WriteFault`, or
+    // `NoMemory` after both files were read: the rows are at most 65,536, and the output took a first part of the lines of the
+    // first of them.
     ensures stands { HasConverted (how_read reading.entry.hours) (spec.paths_of reading.entry.paths) (J.to_come means.old)
         (I.to_come tags.old) (O.taken output.old) (O.taken output.new) (lines_of result) }
     // The warnings are those of the hours in the values, down to the last byte, each with the line on which the row begins.

@@ -13,6 +13,8 @@ pub enum Unconverted {
     TagsEndless,
     /// The list of all faults: of the table, if it has any; otherwise of the file of tags and its values. Nothing was put.
     Faults(String),
+    /// The record file would have this many rows, and a record file has at most 65,536. Nothing was put.
+    TooManyRows { rows: u64 },
     /// The output failed when it had taken this many bytes.
     WriteFault { written: u64 },
     /// Memory was refused when the output had taken this many bytes.

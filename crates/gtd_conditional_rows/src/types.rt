@@ -1,6 +1,6 @@
 //! Sets of vehicle types.
 
-ghost use Rattle.std.specs.Prelude.{◌≡◌, false, slice_index_or};
+ghost use Rattle.std.specs.Prelude.{◌≡◌, false, length, slice_index_or};
 
 use crate::flags::are_same;
 
@@ -10,6 +10,7 @@ pub struct Types {
     // Whether it has a type, at the place of its number. The place 0 is no type's.
     pub(crate) has: [bool; 100],
     ghost no_type: { slice_index_or has 0 false ≡ false },
+    ghost long: { length has ≡ 100 },
 }
 
 // Sets are compared without a branch, by `&` and `|` in place of `&&` and `||`, so that many types are at once.

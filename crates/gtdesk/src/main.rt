@@ -8,14 +8,16 @@
 //! failed.
 #![tactic(auto)]
 
+ghost use Rattle.std.specs.Prelude.{◌≡◌, IfOk, IfSome};
+ghost use Rattle.gtdesk_tool.specs.GivenOptions.{AreOptionsIn, AreOptionsOf, path_of};
+
 use gtd_devices::{Host, HostOut, InputFault, read_whole};
-use gtd_hours_holidays::Holidays;
 use gtdesk_tool::{
     ConditionsPlan, ConditionsTurn, DiffPlan, Ending, Files, HoursOptions, LineRefusal, Moment,
-    OnePlan, Options, Plan, RecordsPlan, Refusal, RefusalLines, RunRefusal, Turn, WordsRefusal,
-    ZonePlan, joined, moment_in_zone, no_options, no_zone, options_with, perform, perform_ask,
-    perform_conditions, perform_diff, plan, read_table, refused_file, refused_table, word_snippet,
-    zone_path,
+    OnePlan, Plan, PlanOptions, ReadTable, Refusal, RefusalLines, RunRefusal, Turn, WordsRefusal,
+    ZonePlan, joined, moment_in_zone, no_options, no_zone, options_given, options_of_plan, perform,
+    perform_ask, perform_conditions, perform_diff, plan, read_plan_table, refused_file,
+    refused_table, word_snippet, zone_path,
 };
 use std::fs::File;
 use std::io::{BufWriter, ErrorKind, Read};
@@ -73,9 +75,16 @@ fn run_file(rt: &HostRuntime, turn: Turn<'_>) -> Result<Ending, RunRefusal> {
     }
 }
 
-// Carries a plan out for one file after the other, with these options of texts of hours, and tells why a file is refused. After
-// an output that failed, no file follows.
-fn run_files(rt: &HostRuntime, plan: &OnePlan, options: &Options, paths: &[String]) -> ExitCode {
+// Carries a plan out for one file after the other, with its options, and tells why a file is refused. After an output that failed,
+// no file follows.
+fn run_files(
+    rt: &HostRuntime,
+    plan: &OnePlan,
+    options: &PlanOptions<'_>,
+    paths: &[String],
+) -> ExitCode
+    requires given { AreOptionsIn plan.now options.now }
+{
     let mut ended = Ok(Ending::Done);
     for path in paths {
         let path = path.as_str();
@@ -99,18 +108,22 @@ fn run_files(rt: &HostRuntime, plan: &OnePlan, options: &Options, paths: &[Strin
 }
 
 // The table of holidays of this path, from a reader; or none, if its faults were told.
-fn table_from<R: Read + Drop>(
+fn table_from<'a, R: Read + Drop>(
     rt: &HostRuntime,
-    path: &str,
+    path: &'a str,
     reader: R,
-) -> Result<Option<Holidays>, RunRefusal> {
+) -> Result<Option<ReadTable<'a>>, RunRefusal>
+    ensures named { IfOk result (λ found. IfSome found (λ table. path_of table ≡ path.now)) }
+{
     let mut input = Host::new(reader);
     let mut errors = HostOut::new(rt.stderr());
-    read_table(rt.alloc(), &mut input, &mut errors, path)
+    read_plan_table(rt.alloc(), &mut input, &mut errors, path)
 }
 
 // The table of holidays at this path, or none, if its faults were told.
-fn table_at(rt: &HostRuntime, path: &str) -> Result<Option<Holidays>, RunRefusal> {
+fn table_at<'a>(rt: &HostRuntime, path: &'a str) -> Result<Option<ReadTable<'a>>, RunRefusal>
+    ensures named { IfOk result (λ found. IfSome found (λ table. path_of table ≡ path.now)) }
+{
     match path {
         "-" => table_from(rt, path, rt.stdin()),
         path => table_from(rt, path, open(rt, path)?),
@@ -119,32 +132,34 @@ fn table_at(rt: &HostRuntime, path: &str) -> Result<Option<Holidays>, RunRefusal
 
 // The options with which texts of hours are read, by their table of holidays, if one is given. If that is refused or at fault,
 // this is told, and the answer is the status.
-fn options_by(rt: &HostRuntime, given: &HoursOptions) -> Result<Options, ExitCode> {
-    let table = match &given.holidays {
+fn options_by<'a>(rt: &HostRuntime, given: &'a HoursOptions) -> Result<PlanOptions<'a>, ExitCode>
+    ensures given { IfOk result (AreOptionsOf given.now) }
+{
+    match &given.holidays {
         Some(path) => match table_at(rt, path.as_str()) {
-            Ok(Some(table)) => Some(table),
-            Ok(None) => return Err(ExitCode::from(Ending::FaultsListed.status())),
-            Err(refusal) => return Err(finish(rt, Err(refusal), path.as_str(), "")),
+            Ok(Some(table)) => Ok(options_of_plan(Some(table), given)),
+            Ok(None) => Err(ExitCode::from(Ending::FaultsListed.status())),
+            Err(refusal) => Err(finish(rt, Err(refusal), path.as_str(), "")),
         },
-        None => None,
-    };
-    Ok(options_with(table, given))
-}
-
-// Carries the plan of `records` out. If its table of holidays is refused or at fault, no file follows.
-fn run_records(rt: &HostRuntime, plan: &OnePlan, records: &RecordsPlan) -> ExitCode {
-    match options_by(rt, &records.options) {
-        Ok(options) => run_files(rt, plan, &options, records.files.as_slice()),
-        Err(status) => status,
+        None => Ok(options_of_plan(None, given)),
     }
 }
 
-// Carries a plan out that reads one file at a time, or none.
+// Carries a plan out that reads one file at a time, or none. If its table of holidays is refused or at fault, no file follows.
 fn run_one(rt: &HostRuntime, plan: &OnePlan) -> ExitCode {
-    if let OnePlan::Records(records) = plan {
-        return run_records(rt, plan, records);
+    match options_given(plan) {
+        Some(given) => match options_by(rt, given) {
+            Ok(options) => run_with(rt, plan, &options),
+            Err(status) => status,
+        },
+        None => run_with(rt, plan, &no_options()),
     }
-    let options = &no_options();
+}
+
+// Carries such a plan out with its options.
+fn run_with(rt: &HostRuntime, plan: &OnePlan, options: &PlanOptions<'_>) -> ExitCode
+    requires given { AreOptionsIn plan.now options.now }
+{
     match plan.files() {
         Files::Several(paths) => run_files(rt, plan, options, paths),
         Files::One(path) => {
@@ -318,23 +333,28 @@ fn run_tags(rt: &HostRuntime, turn: ConditionsTurn<'_>) -> Result<Ending, RunRef
     }
 }
 
-// Carries the plan of `conditions` out, and tells why one of its files is refused. If its table of holidays is, the others are
-// not read.
-fn run_tags_and_means(rt: &HostRuntime, plan: &ConditionsPlan) -> ExitCode {
-    let options = match options_by(rt, &plan.options) {
-        Ok(options) => options,
-        Err(status) => return status,
-    };
-    let turn = ConditionsTurn {
-        plan,
-        options: &options,
-    };
+// Carries the plan of `conditions` out with its options, and tells why one of its files is refused.
+fn run_turn(rt: &HostRuntime, turn: ConditionsTurn<'_>) -> ExitCode {
     let answer = run_tags(rt, turn);
     let path = match answer {
-        Err(refusal) => refused_table(plan, refusal),
+        Err(refusal) => refused_table(turn.plan, refusal),
         Ok(_) => "",
     };
     finish(rt, answer, path, "")
+}
+
+// Carries the plan of `conditions` out. If its table of holidays is refused or at fault, the other files are not read.
+fn run_tags_and_means(rt: &HostRuntime, plan: &ConditionsPlan) -> ExitCode {
+    match options_by(rt, &plan.options) {
+        Ok(options) => {
+            let turn = ConditionsTurn {
+                plan,
+                options: &options,
+            };
+            run_turn(rt, turn)
+        }
+        Err(status) => status,
+    }
 }
 
 fn run(rt: &HostRuntime, plan: Plan) -> ExitCode {

@@ -13,6 +13,7 @@ pub conditions_tags : (answer : Result Converted Unconverted) (n : ℕ)
     → runs.failures_after_tags answer n ≡ failures_after_read (conditions_outcome (lines_of answer)) n
 conditions_tags (Ok done) n = refl
 conditions_tags (Err (run.Faults list)) n = refl
+conditions_tags (Err (run.TooManyRows rows)) n = refl
 conditions_tags (Err run.MeansReadFault) n = refl
 conditions_tags (Err run.MeansEndless) n = refl
 conditions_tags (Err run.TagsReadFault) n = refl
@@ -24,6 +25,7 @@ pub conditions_means : (answer : Result Converted Unconverted) (n : ℕ)
     → runs.failures_after_means answer n ≡ failures_after_means (conditions_outcome (lines_of answer)) n
 conditions_means (Ok done) n = refl
 conditions_means (Err (run.Faults list)) n = refl
+conditions_means (Err (run.TooManyRows rows)) n = refl
 conditions_means (Err run.MeansReadFault) n = refl
 conditions_means (Err run.MeansEndless) n = refl
 conditions_means (Err run.TagsReadFault) n = refl
@@ -35,6 +37,7 @@ pub conditions_write : (answer : Result Converted Unconverted) (n : ℕ)
     → runs.failures_after_putting answer n ≡ failures_after_write (conditions_outcome (lines_of answer)) n
 conditions_write (Ok done) n = refl
 conditions_write (Err (run.Faults list)) n = refl
+conditions_write (Err (run.TooManyRows rows)) n = refl
 conditions_write (Err run.MeansReadFault) n = refl
 conditions_write (Err run.MeansEndless) n = refl
 conditions_write (Err run.TagsReadFault) n = refl

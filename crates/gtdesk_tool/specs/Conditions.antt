@@ -20,6 +20,7 @@ use Rattle.gtdesk_tool.specs.declared.refusal.RunRefusal.TheVariants as refusal
 abbrev pub conditions_outcome : Result ℕ Unconverted → Result Ending RunRefusal
 conditions_outcome (Ok lines) = Ok ending.Done
 conditions_outcome (Err (run.Faults list)) = Ok ending.FaultsListed
+conditions_outcome (Err (run.TooManyRows rows)) = Err (refusal.TooManyRows rows)
 conditions_outcome (Err run.MeansReadFault) = Err (refusal.Means records.ReadFault)
 conditions_outcome (Err run.MeansEndless) = Err (refusal.Means records.Endless)
 conditions_outcome (Err run.TagsReadFault) = Err (refusal.Records records.ReadFault)

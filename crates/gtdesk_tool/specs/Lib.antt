@@ -2,6 +2,7 @@ pub mod Ask
 pub mod Comparing
 pub mod Conditions
 pub mod Diff
+pub mod GivenOptions
 pub mod TextHours
 pub mod HolidayTables
 pub mod Hours

@@ -38,6 +38,7 @@ run_status (run.Old why) = records_status why
 run_status run.OldOpen = 3
 run_status (run.Means why) = records_status why
 run_status run.MeansOpen = 3
+run_status (run.TooManyRows rows) = 1
 run_status (run.Questions why) = questions_status why
 run_status run.Write = 3
 run_status run.Memory = 3

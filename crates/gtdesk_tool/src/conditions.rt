@@ -1,18 +1,21 @@
 //! The command `conditions`: the record file of a file of tags of ways.
 
 ghost use Rattle.std.specs.Prelude.{◌≡◌, ◌<◌};
+ghost use Rattle.std.proofs.Props.{props};
 ghost use Rattle.gtd_conditional_file.specs.Run.{lines_of};
 ghost use Rattle.gtdesk_tool.specs.Conditions.{IsAnswerTold, RanConditions, conditions_outcome, failures_after_means};
+ghost use Rattle.gtdesk_tool.specs.GivenOptions.{AreOptionsOf, options_of};
 ghost use Rattle.gtdesk_tool.specs.Running.{failures_after_read, failures_after_write};
 ghost use Rattle.gtdesk_tool.specs.Telling.{telling};
 
 use crate::ending::Ending;
 use crate::hours_records::{tell, tell_if_some};
 use crate::loose_hours::manner_of;
+use crate::plan_options::PlanOptions;
 use crate::refusal::RunRefusal;
 use gtd_conditional_file::{ConditionsReading, Converted, Paths, Unconverted, run_conditions};
 use gtd_devices::{Input, Output};
-use gtd_hours_options::{HoursReading, Options};
+use gtd_hours_options::HoursReading;
 use gtd_records::RecordFault;
 use gtdesk_plans::ConditionsPlan;
 use std::alloc::Global;
@@ -24,6 +27,7 @@ fn conditions_outcome(answer: &Result<Converted, Unconverted>) -> Result<Ending,
     match answer {
         Ok(_) => Ok(Ending::Done),
         Err(Unconverted::Faults(_)) => Ok(Ending::FaultsListed),
+        Err(Unconverted::TooManyRows { rows }) => Err(RunRefusal::TooManyRows { rows: *rows }),
         Err(Unconverted::MeansReadFault) => Err(RunRefusal::Means(RecordFault::ReadFault)),
         Err(Unconverted::MeansEndless) => Err(RunRefusal::Means(RecordFault::Endless)),
         Err(Unconverted::TagsReadFault) => Err(RunRefusal::Records(RecordFault::ReadFault)),
@@ -52,7 +56,9 @@ pub struct ConditionsTurn<'a> {
     /// The plan.
     pub plan: &'a ConditionsPlan,
     /// The options.
-    pub options: &'a Options,
+    pub options: &'a PlanOptions<'a>,
+    // They are those that the plan gives, with a table that was read from the path that it names, or with none if it names none.
+    pub ghost given: { AreOptionsOf plan.now.options options.now } by { Prim.hlevel props },
 }
 
 /// Carries the plan of `conditions` out: puts the record file that a file of tags of ways stands for by a table of means, both of
@@ -61,7 +67,8 @@ pub struct ConditionsTurn<'a> {
 /// values. If that output fails, a first part of the warnings or of the list stands, and the answer is the same.
 ///
 /// The file of tags is read if the table has no fault. `Means` says why the input of the table failed, and `Records` why that of
-/// the file of tags did. `Write` is answered exactly if the output failed, which has then taken a first part of what was to be
+/// the file of tags did. `TooManyRows` is answered if the record file would have more than 65,536 rows; nothing is put then.
+/// `Write` is answered exactly if the output failed, which has then taken a first part of what was to be
 /// put; `Memory` if memory was refused. Before the call, the failures of each device must be below `u64::MAX`.
 pub fn perform_conditions<I: Input, J: Input, O: Output, E: Output>(
     alloc: Global,
@@ -76,7 +83,7 @@ pub fn perform_conditions<I: Input, J: Input, O: Output, E: Output>(
     requires writable { O.failure_count output.old < u64.MAX }
     requires tellable { E.failure_count errors.old < u64.MAX }
     // What the output took, and what the output for errors took, by the answer.
-    ensures ran { RanConditions turn.entry.plan.now turn.entry.options.now (I.to_come tags.old) (J.to_come means.old)
+    ensures ran { RanConditions turn.entry.plan.now (options_of turn.entry.options.now) (I.to_come tags.old) (J.to_come means.old)
         (O.taken output.old) (O.taken output.new) (I.may_fall_silent tags.old) (J.may_fall_silent means.old)
         (O.is_ended output.new)
         (telling (E.taken errors.old) (E.taken errors.new) (E.failure_count errors.old) (E.failure_count errors.new)) result }
@@ -93,7 +100,7 @@ pub fn perform_conditions<I: Input, J: Input, O: Output, E: Output>(
         },
         hours: HoursReading {
             manner: manner_of(plan.options.strict, plan.options.names),
-            options: turn.options,
+            options: &turn.options.options,
         },
     };
     let answer = run_conditions(alloc, tags, means, output, reading);

@@ -53,7 +53,7 @@ fn table_of<E: Output>(
 ///
 /// `Records` says why the input failed, and `Memory` that memory was refused. Before the call, the failures of each device must
 /// be below `u64::MAX`.
-pub fn read_table<I: Input, E: Output>(
+pub(crate) fn read_table<I: Input, E: Output>(
     alloc: Global,
     input: &mut I,
     errors: &mut E,

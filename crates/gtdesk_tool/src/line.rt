@@ -212,6 +212,10 @@ impl Display for RunLine<'_> {
             RunRefusal::OldOpen => write!(f, "{file}: cannot be opened"),
             RunRefusal::Means(fault) => write!(f, "{file}: {}", FaultText(fault)),
             RunRefusal::MeansOpen => write!(f, "{file}: cannot be opened"),
+            RunRefusal::TooManyRows { rows } => write!(
+                f,
+                "{file}: TooManyRows: the record file would have {rows} rows; at most 65536 are accepted"
+            ),
             RunRefusal::Questions(fault) => write!(f, "standard input: {}", QuestionText(fault)),
             RunRefusal::Write => write!(f, "standard output: cannot be written"),
             RunRefusal::Memory => write!(f, "memory: refused by the system"),

@@ -1,9 +1,11 @@
 //! Carrying a plan out.
 
 ghost use Rattle.std.specs.Prelude.{◌≡◌, ◌<◌};
+ghost use Rattle.std.proofs.Props.{props};
 ghost use Rattle.gtd_core.specs.Parts.{domain_tree};
 ghost use Rattle.gtd_core.specs.Seconds.{IsHorizonSecond};
 ghost use Rattle.gtd_words.specs.Words.{words_in};
+ghost use Rattle.gtdesk_tool.specs.GivenOptions.{AreOptionsIn, options_of};
 ghost use Rattle.gtdesk_tool.specs.Running.{HasRunPlan, IsQuiet, PutText, ReadsNone, RanFaults, failures_after_read};
 ghost use Rattle.gtdesk_tool.specs.Running.{failures_after_write, listing_outcome, outcome_of, refusal_for};
 ghost use Rattle.gtdesk_tool.specs.Telling.{telling};
@@ -16,13 +18,14 @@ use crate::mended::print_mended;
 use crate::mended_hours::print_mended_hours;
 use crate::now::{NowTurn, form_of, print_now};
 use crate::picture::{print_domain, print_picture};
+use crate::plan_options::PlanOptions;
 use crate::refusal::RunRefusal;
 use crate::repeats::print_repeats;
 use crate::same::print_comparison;
 use crate::text_hours::{HoursTurn, print_hours};
 use gtd_devices::{Input, Output};
 use gtd_faults::{ListFault, run_faults};
-use gtd_hours_options::{HoursReading, Options};
+use gtd_hours_options::HoursReading;
 use gtd_now::Asked;
 use gtd_records::RecordFault;
 use gtd_report::{Progress, RunFault, finish, put_line};
@@ -146,15 +149,18 @@ fn print_words<O: Output>(
     }
 }
 
-/// A plan, and the path of the one of its files whose bytes the input brings.
+/// A plan, the path of the one of its files whose bytes the input brings, and the options with which its texts are read.
 #[derive(Clone, Copy)]
 pub struct Turn<'a> {
     /// The plan.
     pub plan: &'a OnePlan,
     /// The path; any, if the plan reads no file.
     pub path: &'a str,
-    /// The options with which texts are read, if the file is one of opening hours.
-    pub options: &'a Options,
+    /// The options; any, if the file is none of opening hours.
+    pub options: &'a PlanOptions<'a>,
+    // If it is one, they are those that the plan gives, with a table that was read from the path that it names, or with none if it
+    // names none.
+    pub ghost given: { AreOptionsIn plan.now options.now } by { Prim.hlevel props },
 }
 
 /// Carries a plan out for one of its files, whose bytes the input brings: puts what it asks for, and ends the output. If the
@@ -178,7 +184,7 @@ pub fn perform<I: Input, O: Output, E: Output>(
     requires writable { O.failure_count output.old < u64.MAX }
     requires tellable { E.failure_count errors.old < u64.MAX }
     // What the output took, by the answer; of some plans, what the output for errors took, too.
-    ensures ran { HasRunPlan turn.entry.plan.now turn.entry.options.now turn.entry.path.now (I.to_come input.old)
+    ensures ran { HasRunPlan turn.entry.plan.now (options_of turn.entry.options.now) turn.entry.path.now (I.to_come input.old)
         (O.taken output.old) (O.taken output.new) (I.may_fall_silent input.old) (O.is_ended output.new)
         (telling (E.taken errors.old) (E.taken errors.new) (E.failure_count errors.old) (E.failure_count errors.new)) result }
     // Each failure of the input or of the output is told, and nothing else is told as one.
@@ -230,7 +236,7 @@ pub fn perform<I: Input, O: Output, E: Output>(
         OnePlan::Records(plan) => {
             let reading = HoursReading {
                 manner: manner_of(plan.options.strict, plan.options.names),
-                options: turn.options,
+                options: &turn.options.options,
             };
             print_records(alloc, input, output, errors, RecordsTurn { path, reading })
         }

@@ -34,6 +34,8 @@ pub enum RunRefusal {
     Means(RecordFault),
     /// The table of means is not opened.
     MeansOpen,
+    /// The record file that tags stand for would have this many rows, and a record file has at most 65,536.
+    TooManyRows { rows: u64 },
     /// The questions on standard input are not read. This is their first fault, or why the input failed, and never `NoMemory`.
     Questions(QuestionFault),
     /// A write to standard output failed.
@@ -59,6 +61,7 @@ impl RunRefusal {
             RunRefusal::OldOpen => 3,
             RunRefusal::Means(fault) => records_status(*fault),
             RunRefusal::MeansOpen => 3,
+            RunRefusal::TooManyRows { .. } => 1,
             RunRefusal::Questions(fault) => questions_status(*fault),
             RunRefusal::Write => 3,
             RunRefusal::Memory => 3,

@@ -39,7 +39,7 @@ pub(crate) struct HoursTurn<'a> {
 }
 
 /// The options with which texts are read, from those of a plan and the table of holidays, if there is one.
-pub fn options_with(table: Option<Holidays>, given: &HoursOptions) -> Options
+pub(crate) fn options_with(table: Option<Holidays>, given: &HoursOptions) -> Options
     ensures { result ≡ options_by table given.now }
 {
     Options {
@@ -52,7 +52,7 @@ pub fn options_with(table: Option<Holidays>, given: &HoursOptions) -> Options
 }
 
 /// The options with which nothing is given.
-pub fn no_options() -> Options
+pub(crate) fn nothing_given() -> Options
     ensures { IsNothingGiven result }
 {
     Options {

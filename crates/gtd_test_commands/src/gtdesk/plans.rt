@@ -5,7 +5,9 @@ ghost use Rattle.std.specs.Prelude.{◌<◌};
 use crate::devices::two_rows;
 use crate::words::owned;
 use gtd_devices::{MemoryOut, Output};
-use gtdesk_tool::{Ending, OnePlan, Plan, RunRefusal, Turn, no_options, perform, plan};
+use gtdesk_tool::{
+    Ending, OnePlan, Plan, RunRefusal, Turn, no_options, options_given, perform, plan,
+};
 use std::alloc::Global;
 use std::process::Abort;
 
@@ -30,11 +32,15 @@ pub(crate) fn performed<O: Output>(
 {
     let mut input = two_rows(rt, alloc);
     let mut errors = MemoryOut::new(alloc, 100, 100, None).expect(rt, "memory");
-    let options = no_options();
-    let turn = Turn {
-        plan,
-        path: "r.csv",
-        options: &options,
-    };
-    perform(alloc, turn, &mut input, output, &mut errors)
+    match options_given(plan) {
+        None => {
+            let turn = Turn {
+                plan,
+                path: "r.csv",
+                options: &no_options(),
+            };
+            perform(alloc, turn, &mut input, output, &mut errors)
+        }
+        Some(_) => panic!(rt; "the plan has options of hours"),
+    }
 }

@@ -4,7 +4,7 @@ use crate::devices::two_rows;
 use crate::growth::switch;
 use crate::gtdesk::plans::planned;
 use gtd_devices::MemoryOut;
-use gtdesk_tool::{Ending, Files, OnePlan, Turn, no_options, perform};
+use gtdesk_tool::{Ending, Files, OnePlan, Turn, no_options, options_given, perform};
 
 // The first file of a plan, and how many there are.
 fn first_of(plan: &OnePlan) -> (&str, usize) {
@@ -38,15 +38,19 @@ fn texts(rt: HostRuntime) {
     let mut input = two_rows(&rt, alloc);
     let mut output = MemoryOut::new(alloc, 1_000, 5, None).expect(&rt, "memory");
     let mut errors = MemoryOut::new(alloc, 100, 100, None).expect(&rt, "memory");
-    let options = no_options();
-    let turn = Turn {
-        plan: &plan,
-        path: "r.csv",
-        options: &options,
-    };
-    switch(alloc);
-    let done = perform(alloc, turn, &mut input, &mut output, &mut errors);
-    assert!(rt; done == Ok(Ending::Done));
-    assert!(rt; output.bytes() == b"gtdesk 0.1.0\n".as_slice());
-    switch(alloc);
+    match options_given(&plan) {
+        None => {
+            let turn = Turn {
+                plan: &plan,
+                path: "r.csv",
+                options: &no_options(),
+            };
+            switch(alloc);
+            let done = perform(alloc, turn, &mut input, &mut output, &mut errors);
+            assert!(rt; done == Ok(Ending::Done));
+            assert!(rt; output.bytes() == b"gtdesk 0.1.0\n".as_slice());
+            switch(alloc);
+        }
+        Some(_) => panic!(rt; "the plan has options of hours"),
+    }
 }
