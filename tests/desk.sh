@@ -383,7 +383,7 @@ expect 'hours that are no text' 2 '' "gtdesk: command line: a word is no text $s
 # Warnings: after the faults.
 printf '%s\n' element,direction,vehicle,domain '1,both,0,[(h5){h1}]*[(h7){h1}]' '2,both,0,(h0){h24}' '3,up,0,' \
     '4,both,0,(h7){h2}' 5,both,0, '6,both,0,(y1800){y1}' > warn.csv
-never=$'never-holds: at no second\n    ' always=$'always-holds: at each second, as if no domain were given\n    (h0){h24}\n    ^'
+never=$'never-holds: at no second from 1901 on\n    ' always=$'always-holds: at each second, as if no domain were given\n    (h0){h24}\n    ^'
 run faults --warn warn.csv
 expect 'faults and warnings' 1 $'warn.csv:4: row 3: Direction\n    up\n    ^\n    expected: positive, negative or both
 warn.csv:2: row 1: '"$never"$'[(h5){h1}]*[(h7){h1}]\n     ^

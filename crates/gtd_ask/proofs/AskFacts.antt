@@ -7,6 +7,7 @@ use Rattle.gtd_report.specs.Run.{AcceptedFilesArePut, HasRun, PutsWhole, Refused
 use Rattle.gtd_report.specs.Run as report
 use Rattle.gtd_report.specs.declared.fault.RunFault.{RunFault}
 use Rattle.gtd_report.specs.declared.fault.RunFault.TheVariants as run
+use Rattle.gtd_report.specs.facts.RunFacts.{risen}
 use Rattle.gtd_ask.specs.Answers.{IsText}
 use Rattle.gtd_ask.specs.Questions.{IsFile, IsOfFile}
 use Rattle.gtd_ask.specs.Run.{HadMemoryAndInput, HasAnswered, HasRunAfter, HeadlineOf, KeepsRefused, PutsAnswers, answer_for}
@@ -32,10 +33,6 @@ apart bytes x why p q = ok_or_err x why (one_file bytes (Ok x) (Err why) p q)
 had_run : (r : Result ℕ RunFault) → HadMemoryAndInput (answer_for r) → report.HadMemoryAndInput r
 had_run (Ok count) had = tt
 had_run (Err why) had = had
-
--- a count that rose did not stay
-risen : (n : ℕ) → n + 1 ≡ n → ⊥
-risen n e = omega arith
 
 -- a fault of the questions for which no device failed, and for which there was memory and input, is of the file
 of_file : (why : QuestionFault) (n : ℕ) → failures_after_questions {T = List Question} (Err why) n ≡ n

@@ -13,7 +13,7 @@ use Rattle.gtd_report.specs.Run.{AcceptedFilesArePut, HasRun, PutsWhole, Refused
 use Rattle.gtd_report.specs.Run as report
 use Rattle.gtd_report.specs.declared.fault.RunFault.{RunFault}
 use Rattle.gtd_report.specs.declared.fault.RunFault.TheVariants as run
-use Rattle.gtd_report.specs.facts.RunFacts.{apart, same_found}
+use Rattle.gtd_report.specs.facts.RunFacts.{apart, risen, same_found}
 use Rattle.gtd_changes.specs.Forms.{IsTextIn}
 use Rattle.gtd_changes.specs.declared.form.Form.{Form}
 use Rattle.gtd_changes.specs.Run.{HadMemoryAndInput, HasComparedIn, HasRunAfter, HeadlineIn, KeepsRefused, PutsChanges, answer_for}
@@ -23,10 +23,6 @@ use Rattle.gtd_changes.specs.declared.fault.ChangesFault.TheVariants as fault
 had_run : (r : Result ℕ RunFault) → HadMemoryAndInput (answer_for r) → report.HadMemoryAndInput r
 had_run (Ok count) had = tt
 had_run (Err why) had = had
-
--- a count that rose did not stay
-risen : (n : ℕ) → n + 1 ≡ n → ⊥
-risen n e = omega arith
 
 -- a fault of the old file for which no device failed, and for which there was memory and input, is of the file
 of_file : (T : Type 0) (why : RecordFault) (n : ℕ) → failures_after_records {T = T} (Err why) n ≡ n

@@ -78,7 +78,8 @@ pub fn run_migrate<I: Input, O: Output>(
     // If neither device counted a failure, and there was memory and input: of a restriction file the output took the migrated
     // file, and the answer is the number of its lines; of any other file it took nothing, and the answer is the file's first
     // fault.
-    ensures claim { I.failure_count input.new ≡ I.failure_count input.old → O.failure_count output.new ≡ O.failure_count output.old
+    ensures claim { I.failure_count input.new ≡ I.failure_count input.old
+        → O.failure_count output.new ≡ O.failure_count output.old
         → MigrationClaim (I.to_come input.old) (O.taken output.old) (O.taken output.new) result }
     // What each answer means: after a failure or a refusal of memory, the first bytes of the migrated file.
     ensures stands { HasRun (λ found. ⊤) (λ found lines. lines ≡ migrated found)

@@ -62,9 +62,11 @@ IsMinutes start duration =
 abbrev pub IsEndAsDuration : StartParts → DurationParts → Type 0
 IsEndAsDuration start duration =
     IsDaily start × HasOneTime start × LastsClock duration × (0 < begin_of start)
-    × (begin_of start < clock_seconds duration) × (clock_seconds duration ≤ begin_of start + 10_800) × (begin_of start + clock_seconds duration ≤ 86_400)
+    × (begin_of start < clock_seconds duration) × (clock_seconds duration ≤ begin_of start + 10_800)
+    × (begin_of start + clock_seconds duration ≤ 86_400)
 
--- (h16){h18}: an hour, at one time of the day, and hours, minutes and seconds that name a later time of the day; and each stretch ends after midnight
+-- (h16){h18}: an hour, at one time of the day, and hours, minutes and seconds that name a later time of the day; and each
+-- stretch ends after midnight
 abbrev pub IsEndPastMidnight : StartParts → DurationParts → Type 0
 IsEndPastMidnight start duration =
     (start.hour ≢ None) × HasOneTime start × LastsClock duration × (begin_of start < clock_seconds duration)

@@ -136,7 +136,8 @@ module _ (asked : Asked) (file old new : Option (List ℕ)) (silent : Bool) (bef
   had : (ran : Ran asked file old new silent before after result) → IsUnhindered result → HadMemoryAndInput ran.answer
   had ran h = had_all ran.answer (free ran h)
 
-  read : (ran : Ran asked file old new silent before after result) → IsUnhindered result → CountsNone (failures_after_read ran.answer)
+  read : (ran : Ran asked file old new silent before after result) → IsUnhindered result
+      → CountsNone (failures_after_read ran.answer)
   read ran h = none_read ran.answer (free ran h)
 
   wrote : (ran : Ran asked file old new silent before after result) → IsUnhindered result

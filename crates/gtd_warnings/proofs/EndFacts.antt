@@ -25,7 +25,8 @@ lookback_few q h = few (bound_of q) h.1
     few : (n : ℕ) → n ≤ 3162240000 → (n + 86399) / 86400 ≤ 36600
     few n le = omega arith
 
-module _ (start : StartParts) (duration : DurationParts) (valid : IsDuration duration) (year : ℕ) (is : start.year ≡ Some year) where
+module _ (start : StartParts) (duration : DurationParts) (valid : IsDuration duration) (year : ℕ)
+    (is : start.year ≡ Some year) where
   sure : year ≤ last_sure_year → IsEndedBy (Single start duration) (day_after_year year (lookback_of duration))
   sure le =
       let few = lookback_few duration valid in

@@ -27,7 +27,8 @@ module _ (tree : Tree) (end : ℤ) (ended : IsEndedBy tree end) where
   pub after_end : (day : ℤ) → end ≤ℤ day → HoldsNoneFrom tree (first_of_day day)
   after_end day le t from h = let until = ended.each t h in omega (arith, ints, le, from, until)
 
-  pub by_end : (s : ℤ) (found : Bool) → IsTrue found ↔ HoldsNoneTill tree s (first_of_day end) → IsTrue found ↔ HoldsNoneFrom tree s
+  pub by_end : (s : ℤ) (found : Bool) → IsTrue found ↔ HoldsNoneTill tree s (first_of_day end)
+      → IsTrue found ↔ HoldsNoneFrom tree s
   by_end s found is = ((λ t. (till_end s).0 (is.0 t)), (λ none. is.1 ((till_end s).1 none)))
 
   -- none in two parts
@@ -96,7 +97,10 @@ module _ (tree : Tree) (days : Horizon) where
     pub over_soon : EndsByItsYears tree → (HoldsNoneFrom tree (first_of_day day) → ⊥) → HoldsNoneFrom tree (first_of_day soon)
         → HoldsOn rule.EndsSoon days tree
     over_soon years some none =
-        ((λ over. some (at_day (from_day days) day (sym is) over.1)), (inr years, at_day soon (from_day days +ℤ pos 30) soon_is none))
+        (
+          (λ over. some (at_day (from_day days) day (sym is) over.1)),
+          (inr years, at_day soon (from_day days +ℤ pos 30) soon_is none),
+        )
 
     pub over_late : (HoldsNoneFrom tree (first_of_day day) → ⊥) → (HoldsNoneFrom tree (first_of_day soon) → ⊥)
         → (rule : Rule) → HoldsOn rule days tree → ⊥
@@ -106,7 +110,8 @@ module _ (tree : Tree) (days : Horizon) where
         (λ over. later (at_day (from_day days +ℤ pos 30) soon (sym soon_is) over.1))
 
   -- an expression that holds at some second from 1901 on and repeats is over by no day
-  pub repeats_on : (SomeGivesYear tree → ⊥) → (HoldsThroughout tree rule.NeverHolds → ⊥) → (rule : Rule) → HoldsOn rule days tree → ⊥
+  pub repeats_on : (SomeGivesYear tree → ⊥) → (HoldsThroughout tree rule.NeverHolds → ⊥)
+      → (rule : Rule) → HoldsOn rule days tree → ⊥
   repeats_on none some =
       not_on_day
       (λ over. some (over.0, none_from_any tree none (first_of_day (from_day days)) first_second over.1))

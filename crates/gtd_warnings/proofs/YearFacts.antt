@@ -80,8 +80,8 @@ ends_before p q t year e (b, end, matches, stops, from, until) =
     let parts = second-parts b in
     let bound = (stop-bound q b).1 in
     let is = stop-only q b end stops in
-    in_time t b end (stop q b) (day_of_second b) (second_of_day b) (365 * year + year / 4) (bound_of q) until is bound parts.0 parts.1
-    (begins_before p b year e matches)
+    in_time t b end (stop q b) (day_of_second b) (second_of_day b) (365 * year + year / 4) (bound_of q) until is bound parts.0
+    parts.1 (begins_before p b year e matches)
   where
     in_time : (t b end stop day : ℤ) (second days bound : ℕ) → t <ℤ end → end ≡ stop → stop ≤ℤ (b +ℤ pos bound)
         → b ≡ pos 86400 *ℤ day +ℤ pos second → second < 86400 → day <ℤ (pos (days + 0) -ℤ pos 719_159)

@@ -14,7 +14,8 @@ AreDaysFrom day days =
     (from_day days ≡ day) × (to_day days ≤ℤ (day +ℤ pos 146_097)) × (to_day days ≤ℤ horizons_end)
     × ((to_day days ≡ (day +ℤ pos 146_097)) ⊎ (to_day days ≡ horizons_end))
 
--- The rule holds of an expression on the first of these days: it is over by that day, for ever; or it is not, but is 30 days later.
+-- The rule holds of an expression on the first of these days: it is over by that day, for ever; or it is not, but is 30 days
+-- later.
 abbrev pub HoldsOn : Rule → Horizon → Tree → Type 0
 HoldsOn rule.Past days tree = IsOver tree (first_of_day (from_day days))
 HoldsOn rule.EndsSoon days tree =

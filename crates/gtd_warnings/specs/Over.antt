@@ -28,8 +28,8 @@ EndsByItsYears (Joined Union left right) = EndsByItsYears left × EndsByItsYears
 EndsByItsYears (Joined Meet left right) = EndsByItsYears left ⊎ EndsByItsYears right
 EndsByItsYears (Joined Minus left right) = EndsByItsYears left
 
--- What the expression contains for ever is known by what it contains before 2700: no start gives a year, so that it repeats; or it
--- ends by its years.
+-- What the expression contains for ever is known by what it contains before 2700: no start gives a year, so that it repeats; or
+-- it ends by its years.
 abbrev pub IsKnownForEver : Tree → Type 0
 IsKnownForEver tree = (SomeGivesYear tree → ⊥) ⊎ EndsByItsYears tree
 

@@ -23,8 +23,8 @@ pub const DAYS_AHEAD: i64 = 30;
 /// How many days are at most given for one that is asked about: those of 400 years.
 pub const DAYS_LOOKED_AT: i64 = 146_097;
 
-/// The days that are given for rows that are over on a day: the 400 years from it on, but none after 2699-12-31. `None` if there are
-/// none, or the day is before 1901-01-01.
+/// The days that are given for rows that are over on a day: the 400 years from it on, but none after 2699-12-31. `None` if there
+/// are none, or the day is before 1901-01-01.
 pub fn days_from(day: i64) -> Option<Horizon>
     ensures days { MatchOption result ((days : Horizon) → AreDaysFrom day days → ⊥) (AreDaysFrom day) }
 {
@@ -92,8 +92,8 @@ fn is_never(found: Option<Rule>) -> bool
     }
 }
 
-/// The rule that holds of a domain on the first of these days, if some are given and one does: `Past` or `EndsSoon`. What holds of
-/// it throughout was found before.
+/// The rule that holds of a domain on the first of these days, if some are given and one does: `Past` or `EndsSoon`. What holds
+/// of it throughout was found before.
 pub(crate) fn rule_on_given(
     alloc: Global,
     domain: &Domain,

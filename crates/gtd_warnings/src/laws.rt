@@ -29,9 +29,9 @@ pub fn one_answer()
         → AreLoneOfFile asked bytes b → a ≡ b }
 {}
 
-/// Where a warning says that a row never holds or is over, no second to come is in its domain, however late: from 1901-01-01, from
-/// the day that is asked about, or from 30 days after it on. A domain without years that never holds has no second of all time, and
-/// one that always holds has each. A domain that ends by its years has no second from 2700-01-01 on.
+/// Where a warning says that a row never holds or is over, no second to come is in its domain, however late: from 1901-01-01,
+/// from the day that is asked about, or from 30 days after it on. A domain without years that never holds has no second of all
+/// time, and one that always holds has each. A domain that ends by its years has no second from 2700-01-01 on.
 pub fn said_for_ever()
     ensures never { (tree : Tree) (t : ℤ) → HoldsThroughout tree rule.NeverHolds → first_second ≤ℤ t → InTree tree t → ⊥ }
     ensures never_ever { (tree : Tree) (t : ℤ) → HoldsThroughout tree rule.NeverHolds → (SomeGivesYear tree → ⊥)
@@ -44,8 +44,8 @@ pub fn said_for_ever()
     ensures years { (tree : Tree) (t : ℤ) → AreValid tree → EndsByItsYears tree → InTree tree t → t <ℤ years_end }
 {}
 
-/// Where a warning names an end, each stretch of the basic domain ends at that time of the day, and `end-past-midnight` on the day
-/// after its first. Each stretch of a part that stays ends on its first day, and none of a night does.
+/// Where a warning names an end, each stretch of the basic domain ends at that time of the day, and `end-past-midnight` on the
+/// day after its first. Each stretch of a part that stays ends on its first day, and none of a night does.
 pub fn named_ends()
     ensures duration { (whole : Bool) (s : StartParts) (d : DurationParts) → HoldsOfBasic rule.EndAsDuration whole s d
         → EachEnds s d (EndsAtTime (named s d)) }

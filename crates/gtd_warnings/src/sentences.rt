@@ -86,7 +86,7 @@ impl Display for SaysText {
             Rule::DaysOfYear => write!(f, "not as many days as the year has"),
             Rule::ThirtyFirst => write!(f, "the 31st, which only seven months have"),
             Rule::NoSuchDay => write!(f, "never; the month has no such day"),
-            Rule::NeverHolds => write!(f, "at no second"),
+            Rule::NeverHolds => write!(f, "at no second from 1901 on"),
             Rule::AlwaysHolds => write!(f, "at each second, as if no domain were given"),
             Rule::Past => write!(f, "over before the day that is asked about"),
             Rule::EndsSoon => write!(f, "over within 30 days of the day that is asked about"),

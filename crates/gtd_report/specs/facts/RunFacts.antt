@@ -117,7 +117,7 @@ IsUnhindered (Err (fault.NoMemory written)) = ⊥
 IsUnhindered answer = ⊤
 
 -- a count that rose did not stay
-risen : (n : ℕ) → n + 1 ≡ n → ⊥
+pub risen : (n : ℕ) → n + 1 ≡ n → ⊥
 risen n e = omega arith
 
 -- devices whose counts of failures stayed did not hinder the run

@@ -8,5 +8,6 @@ returns-then-not-gives_year c =
     let given = rw c.expr.ensures.value at c.gives_year.ensures.given in
     let no = c.if-not-gives_year.true in
     record {
-      found = repeats_on (domain_tree c.args.domain.now) c.args.days (λ year. let yes = given.1 year in absurd cc) c.requires.some;
+      found = repeats_on (domain_tree c.args.domain.now) c.args.days (λ year. let yes = given.1 year in absurd cc)
+          c.requires.some;
     }
