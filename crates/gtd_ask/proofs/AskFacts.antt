@@ -1,5 +1,5 @@
 -- What holds of the answer of a run over questions and records, by that of the run over the records.
-use Rattle.std.proofs.Common.{◌≡◌, ◌+◌, ap, refl, subst, ℕ, List, Option, Some, None, Bool}
+use Rattle.std.proofs.Common.{◌≡◌, ap, refl, subst, ℕ, List, Option, Some, None, Bool}
 use Rattle.std.specs.Prelude.{IfSome, IsErrOf, IsTrue, OnOk, Result, Ok, Err, ⊤}
 use Rattle.std.proofs.KnownBytes.{Keeps-refl}
 use Rattle.gtd_records.specs.Closing.{Restriction}

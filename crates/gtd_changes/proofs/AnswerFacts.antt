@@ -1,5 +1,5 @@
 -- What holds of the answer of a run over two files, by that of the run over the new one.
-use Rattle.std.proofs.Common.{◌≡◌, ◌+◌, ap, refl, subst, ℕ, List, Option, Some, None, Bool}
+use Rattle.std.proofs.Common.{◌≡◌, ap, refl, subst, ℕ, List, Option, Some, None, Bool}
 use Rattle.std.specs.Prelude.{IfSome, IsErrOf, IsTrue, OnOk, Result, Ok, Err, ⊤}
 use Rattle.std.proofs.KnownBytes.{Keeps-refl}
 use Rattle.gtd_core.specs.declared.horizon.Horizon.{Horizon}
