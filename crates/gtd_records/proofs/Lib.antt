@@ -5,6 +5,7 @@ pub mod TakingFacts
 pub mod ReadFacts
 pub mod OpenFacts
 pub mod CutFacts
+pub mod ClosedWhenFacts
 pub mod ClosingRowFacts
 pub mod FaultFacts
 pub mod TakerFacts

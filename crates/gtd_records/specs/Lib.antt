@@ -1,4 +1,5 @@
 pub mod Alike
+pub mod ClosedWhen
 pub mod Closing
 pub mod ClosingCursors
 pub mod ClosingRows

@@ -6,12 +6,14 @@ ghost use Rattle.gtd_core.specs.Seconds.{IsHorizonSecond, Within};
 ghost use Rattle.gtd_core.specs.Whole.{whole};
 ghost use Rattle.gtd_eval.specs.Periods.{RepeatsFrom};
 ghost use Rattle.gtd_eval.specs.Stays.{IsStay};
+ghost use Rattle.gtd_records.specs.ClosedWhen.{IsClosedWhen};
 ghost use Rattle.gtd_records.specs.Closing.{AreElements, ClosesOneWay, Concerns, IsClosed};
 ghost use Rattle.gtd_records.specs.ClosingCursors.{HasSecond, RepeatIn, nodes_with_cursors};
 ghost use Rattle.gtd_records.specs.ClosingRows.{AreClosingRows};
 ghost use Rattle.gtd_records.specs.Index.{AreClosing, AreElementPlaces, ArePlaces, ArePlacesWithin, IsRepeated};
 ghost use Rattle.gtd_records.specs.Columns.{IsSortedSet};
 
+use crate::closed_when::ClosedWhen;
 use crate::closing_cursors::ClosingCursors;
 use crate::direction::Direction;
 use crate::record::Record;
@@ -260,6 +262,24 @@ impl Records {
             }
         }
         Some(longest)
+    }
+
+    /// Whether some record closes the element in the direction for the vehicle type, and whether one without a domain does, at
+    /// which the search ends. Takes no memory.
+    pub(crate) fn closed_when(&self, element: u64, direction: Direction, vehicle: u8) -> ClosedWhen
+        ensures when { IsClosedWhen element direction vehicle self.now result }
+    {
+        let mut when = ClosedWhen::Never;
+        for place in self.places_of_element(element) {
+            let restriction = &self.rows[place.row];
+            if restriction.concerns(direction, vehicle) {
+                if restriction.domain().is_none() {
+                    return ClosedWhen::Always;
+                }
+                when = ClosedWhen::ByDomains;
+            }
+        }
+        when
     }
 
     // The cursors of the records that close the element in the direction for the vehicle type, of equal ones perhaps one.

@@ -22,6 +22,7 @@ pub use vehicles::{Codes, Vehicles, Version, read_vehicles};
 
 mod alike;
 mod change;
+mod closed_when;
 mod closing_cursors;
 mod column;
 mod direction;

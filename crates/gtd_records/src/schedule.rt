@@ -5,6 +5,7 @@ ghost use Rattle.gtd_eval.specs.Cursors.{cursor_list};
 ghost use Rattle.gtd_eval.specs.Membership.{IsNormalOver};
 ghost use Rattle.gtd_records.specs.Closing.{IsOpen};
 
+use crate::closed_when::ClosedWhen;
 use crate::direction::Direction;
 use crate::index::Records;
 use gtd_core::Horizon;
@@ -27,8 +28,14 @@ pub fn open_seconds(
     ensures seconds { IfOk result
         (λ c. IsNormalOver (IsOpen records.now element direction vehicle) horizon (cursor_list c)) }
 {
-    let closing = records.closing(alloc, element, direction, vehicle, horizon)?;
-    closing.outside(alloc, horizon)
+    match records.closed_when(element, direction, vehicle) {
+        ClosedWhen::Never => Ok(KeptCursor::whole(horizon)),
+        ClosedWhen::Always => KeptCursor::any(alloc, Vec::new(alloc), horizon),
+        ClosedWhen::ByDomains => {
+            let closing = records.closing(alloc, element, direction, vehicle, horizon)?;
+            closing.outside(alloc, horizon)
+        }
+    }
 }
 
 /// The seconds of the horizon in which no record closes the element in the direction for the vehicle type, which must

@@ -1,12 +1,29 @@
--- The seconds outside of all closing cursors are those at which no record closes the element.
+-- All is open where no record closes the element, nothing where one without a domain does; else what lies outside of all closing
+-- cursors.
 use Rattle.gtd_eval.specs.Cursors.{cursor_list}
+use Rattle.gtd_records.proofs.ClosedWhenFacts.{always_closed, never_closed, none_hold}
 use Rattle.gtd_records.proofs.OpenFacts.{ok_both, open_normal}
 use Rattle.gtd_records.specs.ClosingCursors.{HasSecond}
 use Rattle.gtd_records.proofs.schedule.open_seconds.Goals as goal
 
-pub returns : goal.returns
-returns c = record {
+pub returns-in-Never : goal.returns-in-Never
+returns-in-Never c = record {
+  seconds = never_closed c.args.records.now c.args.element c.args.direction c.args.vehicle c.args.horizon
+      (cursor_list c.whole.result) c.in-Never.ensures.when c.whole.ensures.list;
+}
+
+pub returns-in-Always : goal.returns-in-Always
+returns-in-Always c = record {
+  seconds = ok_both c.any.result c.any.ensures.seconds c.any.ensures.normal
+      (λ r seconds normal. always_closed c.args.records.now c.args.element c.args.direction c.args.vehicle c.args.horizon
+      (cursor_list r) c.in-Always.ensures.when (λ t h. none_hold c.new.result.items t c.new.ensures.items ((seconds t).0 h))
+      normal);
+}
+
+pub returns-in_ok-closing-in-ByDomains : goal.returns-in_ok-closing-in-ByDomains
+returns-in_ok-closing-in-ByDomains c = record {
   seconds = ok_both c.outside.result c.outside.ensures.seconds c.outside.ensures.normal
       (λ r seconds normal. open_normal c.args.records.now c.args.element c.args.direction c.args.vehicle c.args.horizon
-      (HasSecond c.in_ok-closing.closing) (cursor_list r) c.in_ok-closing.ensures.seconds seconds normal);
+      (HasSecond c.in_ok-closing-in-ByDomains.closing) (cursor_list r) c.in_ok-closing-in-ByDomains.ensures.seconds seconds
+      normal);
 }
