@@ -1,3 +1,4 @@
 pub mod Device
+pub mod Gathering
 pub mod InputFaultNames
 pub mod WholeInput
