@@ -1,6 +1,6 @@
 -- The vehicle types of a set, in ascending order.
 use Rattle.std.proofs.Common.{◌≡◌, ◌<◌, ◌≤◌, ◌+◌, ◌⊎◌, arith, rules, get_or, inl, inr, length, length-append, subst, sym}
-use Rattle.std.proofs.Common.{ℕ, zero, suc, Bool, true, false, refl, List, [], ◌∷◌, ◌++◌}
+use Rattle.std.proofs.Common.{ℕ, suc, Bool, true, false, refl, List, [], ◌∷◌, ◌++◌}
 use Rattle.std.specs.Prelude.{IsTrue, if◌then◌else◌}
 use Rattle.std.specs.List.{Contains}
 use Rattle.std.specs.List.Sorted.{IsStrictlyIncreasing}
