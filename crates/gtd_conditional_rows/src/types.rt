@@ -10,6 +10,7 @@ pub struct Types {
     // Whether it has a type, at the place of its number. The place 0 is no type's.
     pub(crate) has: [bool; 100],
     ghost no_type: { slice_index_or has 0 false ≡ false },
+    // Said for other crates, which see no private field's length.
     ghost long: { length has ≡ 100 },
 }
 
