@@ -1,12 +1,12 @@
-//! What is known of an element's closed seconds before any domain is looked at.
+//! What the rows of an element show before any domain is looked at.
 
-/// When records close an element in a direction for a vehicle type, as far as their domains need not be looked at for it.
+/// When the records of an element close a direction of it for a vehicle type, as far as this is seen without their domains.
 #[derive(Clone, Copy)]
 pub(crate) enum ClosedWhen {
-    /// At no second: no record concerns it.
+    /// At no second: no record concerns the direction and the vehicle type.
     Never,
-    /// At every second: a record without a domain concerns it.
+    /// At every second: a record without a domain does.
     Always,
-    /// At the seconds of domains: records concern it, and each of them has a domain.
+    /// At the seconds of domains: some records do, and each of these has a domain.
     ByDomains,
 }

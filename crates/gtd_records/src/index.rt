@@ -264,16 +264,16 @@ impl Records {
         Some(longest)
     }
 
-    /// Whether some record closes the element in the direction for the vehicle type, and whether one without a domain does, at
-    /// which the search ends. Takes no memory.
+    /// Whether no record closes the element in the direction for the vehicle type, one without a domain does, or all that do have
+    /// one. The search ends at a record without a domain. Takes no memory.
     pub(crate) fn closed_when(&self, element: u64, direction: Direction, vehicle: u8) -> ClosedWhen
         ensures when { IsClosedWhen element direction vehicle self.now result }
     {
         let mut when = ClosedWhen::Never;
         for place in self.places_of_element(element) {
-            let restriction = &self.rows[place.row];
-            if restriction.concerns(direction, vehicle) {
-                if restriction.domain().is_none() {
+            let row = &self.rows[place.row];
+            if row.concerns(direction, vehicle) {
+                if row.domain().is_none() {
                     return ClosedWhen::Always;
                 }
                 when = ClosedWhen::ByDomains;

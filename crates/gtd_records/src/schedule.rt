@@ -16,6 +16,7 @@ use std::alloc::{AllocError, Global};
 /// The seconds of the horizon in which no record closes the element in the direction for the vehicle type, span by
 /// span. The vehicle type must be from 1 to 99. An element that no record names is open throughout. The spans of a period are
 /// kept, at most 4,096, and handed out again: those that all records that repeat leave open, and of what repeats in the others.
+/// Where no record closes it, or one without a domain does, no cursor of a record is opened, and no memory is taken.
 /// `AllocError` is answered only if memory was refused.
 pub fn open_seconds(
     alloc: Global,

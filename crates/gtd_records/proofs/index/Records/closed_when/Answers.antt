@@ -1,4 +1,4 @@
--- What a record shows, place by place; one without a domain that concerns the element ends the search.
+-- The rows show, place by place, when the element is closed; one without a domain ends the search.
 use Rattle.std.proofs.Common.{◌≡◌, sym, arith, rules, false}
 use Rattle.std.specs.Prelude.{is_none}
 use Rattle.gtd_records.proofs.ClosedWhenFacts.{has_domain, when_all, when_domain, when_other}
@@ -11,18 +11,18 @@ loop-place-preserved c =
     let rows = c.self.inside.rows.items in
     let part = c.places_of_element-place-items.result.now in
     let kept = places_kept _ _ _ _ c.self.view_is c.places_of_element-place-items.ensures.places in
-    let s = c.index-restriction.result.now in
+    let s = c.index-row.result.now in
     let here = c.loop-place-test.true in
     let p = kept.sound _ nowhere here in
     elim c.if-concerns.branch [
       | then-concerns+else-is_none w ↦
           let some : is_none w.domain.result ≡ false = search rules in
           rw w.when-is (when_domain rows c.args.element c.args.direction c.args.vehicle part c.loop-place.place-index nowhere s
-          here p.0 c.index-restriction.ensures c.loop-place.when (p.1 s c.index-restriction.ensures)
+          here p.0 c.index-row.ensures c.loop-place.when (p.1 s c.index-row.ensures)
           (w.if-concerns.ensures.0 (search rules)) (has_domain _ _ _ w.domain.ensures.domain some) c.loop-place.invariant)
       | else-concerns w ↦
           rw w.when-is (when_other rows c.args.element c.args.direction c.args.vehicle part c.loop-place.place-index nowhere s
-          here p.0 c.index-restriction.ensures c.loop-place.when
+          here p.0 c.index-row.ensures c.loop-place.when
           (λ has. let on = w.if-concerns.ensures.1 has in search (rules, on)) c.loop-place.invariant)
     ]
 
