@@ -1,6 +1,6 @@
 -- When an element is closed, as its rows show it place by place, and what is open then: all, or nothing. For `closed_when` and
 -- `open_seconds`.
-use Rattle.std.proofs.Common.{◌≡◌, sym, subst, arith, ◌<◌, ◌+◌, ◌↔◌, inl, inr, false, ℕ, List, [], ◌∷◌, length}
+use Rattle.std.proofs.Common.{◌≡◌, sym, subst, arith, ◌<◌, ◌+◌, inl, inr, false, ℕ, List, [], ◌∷◌, length}
 use Rattle.std.specs.Prelude.{Any, None, Some, Option, is_none, option_map, ℤ, slice_index_or}
 use Rattle.std.proofs.lemmas.Int.{ints}
 use Rattle.gtd_core.specs.Seconds.{Interval}
