@@ -264,8 +264,8 @@ impl Records {
         Some(longest)
     }
 
-    /// Whether no record closes the element in the direction for the vehicle type, one without a domain does, or all that do have
-    /// one. The search ends at a record without a domain. Takes no memory.
+    /// When the records close the element in the direction for the vehicle type, as far as this is seen without their domains:
+    /// never, always, or at the seconds of domains. The search ends at a record without a domain that closes it. Takes no memory.
     pub(crate) fn closed_when(&self, element: u64, direction: Direction, vehicle: u8) -> ClosedWhen
         ensures when { IsClosedWhen element direction vehicle self.now result }
     {
