@@ -1,4 +1,3 @@
 pub mod Device
-pub mod Gathering
 pub mod InputFaultNames
 pub mod WholeInput

@@ -2,20 +2,17 @@
 //!
 //! An [`Input`] gives its bytes in pieces, may have none just now, may end and may fail. An [`Output`] takes a first part
 //! of what it is offered, or fails. Both count their failures. [`Host`] and [`HostOut`] work over any reader and any
-//! writer, [`MemoryIn`] and [`MemoryOut`] over memory; those over memory can be told to fail. [`Gathered`] is an output before
-//! another, which gathers short lines. [`read_whole`] pulls an input to its end.
+//! writer, [`MemoryIn`] and [`MemoryOut`] over memory; those over memory can be told to fail. [`read_whole`] pulls an input
+//! to its end.
 #![tactic(auto)]
 
 pub use device::{Input, Output, Pull, Put};
-pub use gathered::{GatherBuffer, Gathered};
 pub use host::Host;
 pub use host_out::HostOut;
 pub use memory::{MemoryIn, MemoryOut};
 pub use whole::{InputFault, read_whole};
 
-mod copies;
 mod device;
-mod gathered;
 mod host;
 mod host_out;
 mod memory;
