@@ -11,8 +11,9 @@ use std::io::{BufWriter, ErrorKind, Read};
 use std::process::ExitCode;
 use std::{env, io};
 
-// How many bytes are gathered before they are written to standard output: as many as a pipe holds.
-const OUTPUT_BUFFER: usize = 65_536;
+// How many bytes are gathered before they are written to standard output: half of what a pipe holds. A schedule gathers its lines
+// itself, in larger pieces, which are written as they are.
+const OUTPUT_BUFFER: usize = 32_768;
 
 // The words after the program's name. A word that is not UTF-8 is a fault of usage.
 fn words_of(rt: &HostRuntime) -> Result<Vec<String>, Refusal> {

@@ -17,6 +17,7 @@ pub use Rattle.gtd_devices.specs.Device
 pub use Rattle.gtd_devices.specs.InputFaultNames
 pub use Rattle.gtd_devices.specs.WholeInput
 pub use Rattle.gtd_devices.specs.declared.whole.InputFault
+pub use Rattle.gtd_gathered.specs.Gathering
 pub use Rattle.gtd_records.specs.Closing
 pub use Rattle.gtd_records.specs.ClosingRows
 pub use Rattle.gtd_records.specs.Columns

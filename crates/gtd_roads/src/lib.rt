@@ -9,6 +9,7 @@ pub use gtd_core::{Fault, Horizon, HorizonFault, Sec, Span, TextFault};
 pub use gtd_devices::{
     Host, HostOut, Input, InputFault, MemoryIn, MemoryOut, Output, Pull, Put, read_whole,
 };
+pub use gtd_gathered::{GATHERED, Gathered};
 pub use gtd_migrate::{Migration, run_migrate};
 pub use gtd_records::{
     Closed, Codes, Direction, Record, RecordFault, Records, Vehicles, faults_of, open_seconds,

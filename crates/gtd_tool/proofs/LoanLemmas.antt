@@ -1,5 +1,6 @@
 -- What a device took that writes to a writer lent to it, the writer took.
-use Rattle.std.proofs.Common.{◌≡◌, ◌∙◌, ℕ, List, [], ◌∷◌, ◌++◌, Option, Some, None, refl, sym, ap, append-nil}
+use Rattle.std.proofs.Common.{◌≡◌, ◌∙◌, ◌≤◌, ◌+◌, ◌-◌, ℕ, List, [], ◌∷◌, ◌++◌, Option, Some, None, refl, sym, ap, append-nil, arith}
+use Rattle.std.proofs.Common.{length, take, length-take, length-append}
 use Rattle.std.specs.Prelude.{IfSome, Result, Ok, Err}
 use Rattle.std.specs.Io.KnownBytes.{Appends, Keeps}
 use Rattle.std.proofs.KnownBytes.{Appends-kept, Appends-nil}
@@ -23,35 +24,39 @@ passes_kept a b c d pass kept = append_keeps c d (pass [] (Appends-kept a a b []
 
 -- ---- the loan
 
--- bytes after a number that are added to keep the number
-same_mark : (n m : ℕ) (x y bytes : List ℕ) → m ∷ y ≡ (n ∷ x) ++ bytes → (n ≡ m) × (y ≡ x ++ bytes)
-same_mark n m x y bytes e = (sym (ap front e), ap back e)
+-- bytes after two numbers that are added to keep the numbers
+pub same_mark : (n m k l : ℕ) (x y bytes : List ℕ) → m ∷ l ∷ y ≡ (n ∷ k ∷ x) ++ bytes → (n ≡ m) × (k ≡ l) × (y ≡ x ++ bytes)
+same_mark n m k l x y bytes e = (sym (ap front e), sym (ap second e), ap back e)
   where
     front : List ℕ → ℕ
     front [] = n
     front (z ∷ zs) = z
 
+    second : List ℕ → ℕ
+    second [] = k
+    second (z ∷ []) = k
+    second (z ∷ w ∷ zs) = w
+
     back : List ℕ → List ℕ
     back [] = []
-    back (z ∷ zs) = zs
-
-marked_passes : {X : Type 0} (contents : X → Option (List ℕ)) (n m : ℕ) (a b : Option (List ℕ)) (v w : X) (bytes : List ℕ)
-    → contents w ≡ b
-    → (n ≡ m → v ≡ w) → Appends (marked n a) (marked m b) bytes → Appends a (contents v) bytes
-marked_passes contents n m None b v w bytes is same h = tt
-marked_passes contents n m (Some x) None v w bytes is same h = absurd h
-marked_passes contents n m (Some x) (Some y) v w bytes is same h =
-    let kept = same_mark n m x y bytes h in
-    let value : contents v ≡ Some y = ap contents (same kept.0) ∙ is in
-    rw value kept.1
+    back (z ∷ []) = []
+    back (z ∷ w ∷ zs) = zs
 
 -- Where the device began with the writer's bytes after the loan's name, and ends with those of a writer that is the lender's
 -- if the name is the same, the lender's bytes grew by all that the device took.
-pub loan_passes : {X : Type 0} (contents : X → Option (List ℕ)) (n m : ℕ) (began : Option (List ℕ)) (old v w : X) → began
-    ≡ marked n (contents old)
-    → (n ≡ m → v ≡ w) → Passes began (marked m (contents w)) (contents old) (contents v)
-loan_passes contents n m began old v w is same bytes h =
-    marked_passes contents n m (contents old) (contents w) v w bytes refl same (rw is at h)
+module _ {X : Type 0} (contents : X → Option (List ℕ)) (n m t : ℕ) where
+  marked_passes : (a b : Option (List ℕ)) (v w : X) (bytes : List ℕ) → contents w ≡ b
+      → (n ≡ m → v ≡ w) → Appends (marked n 0 a) (marked m t b) bytes → Appends a (contents v) bytes
+  marked_passes None b v w bytes is same h = tt
+  marked_passes (Some x) None v w bytes is same h = absurd h
+  marked_passes (Some x) (Some y) v w bytes is same h =
+      let kept = same_mark n m (length x - 0) (length y - t) x y bytes h in
+      let value : contents v ≡ Some y = ap contents (same kept.0) ∙ is in
+      rw value kept.2
+
+  pub loan_passes : (began : Option (List ℕ)) (old v w : X) → began ≡ marked n 0 (contents old)
+      → (n ≡ m → v ≡ w) → Passes began (marked m t (contents w)) (contents old) (contents v)
+  loan_passes began old v w is same bytes h = marked_passes (contents old) (contents w) v w bytes refl same (rw is at h)
 
 -- ---- runs
 

@@ -34,6 +34,9 @@ pub fn print<I: Input, W: Write>(alloc: Global, input: &mut I, out: &mut W) -> R
         (I.to_come input.old) (W.contents out.old) (W.contents out.new) (I.may_fall_silent input.old)
         (I.failure_count input.old) (I.failure_count input.new) result }
 {
-    let mut output = HostOut::new(Lent { writer: &mut *out });
+    let mut output = HostOut::new(Lent {
+        writer: &mut *out,
+        taken: 0,
+    });
     outcome(run_migrate(alloc, input, &mut output))
 }

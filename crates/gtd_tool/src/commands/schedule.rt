@@ -12,7 +12,7 @@ use crate::plans::Plan;
 use crate::refusal::Refusal;
 use crate::runner::outcome;
 use crate::words::{days_in, owned, vehicle_in};
-use gtd_roads::{Horizon, HostOut, Input, run_schedule};
+use gtd_roads::{GATHERED, Gathered, Horizon, HostOut, Input, run_schedule};
 use std::alloc::Global;
 use std::io::Write;
 
@@ -58,6 +58,17 @@ pub fn print<I: Input, W: Write>(
         (I.to_come input.old) (W.contents out.old) (W.contents out.new) (I.may_fall_silent input.old)
         (I.failure_count input.old) (I.failure_count input.new) result }
 {
-    let mut output = HostOut::new(Lent { writer: &mut *out });
+    // The run would refuse such a vehicle type in the same way, but only after memory is asked for.
+    if vehicle < 1 || vehicle > 99 {
+        return Err(Refusal::VehicleRange);
+    }
+    let Ok(mut buffer) = vec![in alloc; 0u8; GATHERED] else {
+        return Err(Refusal::Memory);
+    };
+    let device = HostOut::new(Lent {
+        writer: &mut *out,
+        taken: 0,
+    });
+    let mut output = Gathered::new(buffer.as_mut_slice(), device);
     outcome(run_schedule(alloc, input, &mut output, horizon, vehicle))
 }

@@ -88,7 +88,10 @@ pub fn print<I: Input, W: Write>(
         (I.to_come input.old) (W.contents out.old) (W.contents out.new) (I.may_fall_silent input.old)
         (I.failure_count input.old) (I.failure_count input.new) result }
 {
-    let mut output = HostOut::new(Lent { writer: &mut *out });
+    let mut output = HostOut::new(Lent {
+        writer: &mut *out,
+        taken: 0,
+    });
     outcome(run_year(
         alloc,
         input,

@@ -8,7 +8,7 @@ pub returns : goal.returns
 returns g c =
     let e = c.run_year.ensures in
     let answer = c.run_year.result in
-    let pass = loan_passes g.W.Write.contents _ _ _ _ _ _ c.new-output.ensures.bytes (search rules) in
+    let pass = loan_passes g.W.Write.contents _ _ _ _ _ _ _ c.new-output.ensures.bytes (search rules) in
     record {
       ran = λ file. record {
         answer = answer;

@@ -1,0 +1,2 @@
+pub mod GatheringLemmas
+pub mod TwoHalves
