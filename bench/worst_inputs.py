@@ -203,6 +203,8 @@ def one_element(folder):
     yield Case("one element, 43,200 rows, each a second, the year's table", year(apart), 43_200 * DAYS[YEAR], "spans")
     yield Case("one element, 65,536 rows without a domain, a day", schedule(folder.rows("always", [""] * MOST_ROWS), DAY))
     yield Case("one element, 65,536 rows of one domain, a day", schedule(folder.rows("same", ["(h7){h2}"] * MOST_ROWS), DAY))
+    last = folder.rows("last", ["(h7){h2}"] * (MOST_ROWS - 1) + [""])
+    yield Case("one element, 65,535 rows of one domain and the last without, a day", schedule(last, DAY))
     leap = folder.rows("leap_rows", ["(M2d29){y8}"] * MOST_ROWS)
     yield Case("one element, 65,536 rows from 29 February on, a day", schedule(leap, DAY))
     yield Case("one element, 65,536 rows from 29 February on, the year's table", year(leap))
