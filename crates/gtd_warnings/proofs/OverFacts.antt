@@ -96,11 +96,10 @@ module _ (tree : Tree) (days : Horizon) where
 
     pub over_soon : EndsByItsYears tree → (HoldsNoneFrom tree (first_of_day day) → ⊥) → HoldsNoneFrom tree (first_of_day soon)
         → HoldsOn rule.EndsSoon days tree
-    over_soon years some none =
-        (
-          (λ over. some (at_day (from_day days) day (sym is) over.1)),
-          (inr years, at_day soon (from_day days +ℤ pos 30) soon_is none),
-        )
+    over_soon years some none = (
+      (λ over. some (at_day (from_day days) day (sym is) over.1)),
+      (inr years, at_day soon (from_day days +ℤ pos 30) soon_is none),
+    )
 
     pub over_late : (HoldsNoneFrom tree (first_of_day day) → ⊥) → (HoldsNoneFrom tree (first_of_day soon) → ⊥)
         → (rule : Rule) → HoldsOn rule days tree → ⊥

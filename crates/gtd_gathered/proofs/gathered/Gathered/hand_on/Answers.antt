@@ -21,5 +21,5 @@ returns-in-Failed-clause-bytes g c =
     let self = c.loop-self.self in
     let kept = c.in-Failed.ensures.kept in
     let same = Keeps-trans _ _ _ c.loop-self.invariant.bytes
-        (append_known-kept _ _ (between self.from self.until self.bytes.now) c.in-Failed.ensures.taken) in
+    (append_known-kept _ _ (between self.from self.until self.bytes.now) c.in-Failed.ensures.taken) in
     search (rules, kept, same)
