@@ -143,8 +143,8 @@ run_text file run.OldOpen = printable file ++ codes ": cannot be opened"
 run_text file (run.Means why) = printable file ++ codes ": " ++ fault_text why
 run_text file run.MeansOpen = printable file ++ codes ": cannot be opened"
 run_text file (run.TooManyRows rows) =
-    printable file ++ (codes ": TooManyRows: the record file would have " ++ (decimal rows
-    ++ codes " rows; at most 65536 are accepted"))
+    printable file
+    ++ (codes ": TooManyRows: the record file would have " ++ (decimal rows ++ codes " rows; at most 65536 are accepted"))
 run_text file (run.Questions why) = codes "standard input: " ++ question_fault_text why
 run_text file run.Write = codes "standard output: cannot be written"
 run_text file run.Memory = codes "memory: refused by the system"
