@@ -77,11 +77,11 @@ fn run_file(rt: &HostRuntime, turn: Turn<'_>) -> Result<Ending, RunRefusal> {
 
 // Carries a plan out for one file after the other, with its options, and tells why a file is refused. After an output that failed,
 // no file follows.
-fn run_files(
+fn run_files<'a>(
     rt: &HostRuntime,
-    plan: &OnePlan,
-    options: &PlanOptions<'_>,
-    paths: &[String],
+    plan: &'a OnePlan,
+    options: &'a PlanOptions<'a>,
+    paths: &'a [String],
 ) -> ExitCode
     requires given { AreOptionsIn plan.now options.now }
 {
@@ -157,7 +157,7 @@ fn run_one(rt: &HostRuntime, plan: &OnePlan) -> ExitCode {
 }
 
 // Carries such a plan out with its options.
-fn run_with(rt: &HostRuntime, plan: &OnePlan, options: &PlanOptions<'_>) -> ExitCode
+fn run_with<'a>(rt: &HostRuntime, plan: &'a OnePlan, options: &'a PlanOptions<'a>) -> ExitCode
     requires given { AreOptionsIn plan.now options.now }
 {
     match plan.files() {
