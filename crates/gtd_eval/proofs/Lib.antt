@@ -2,6 +2,7 @@
 pub mod BoundFacts
 pub mod ExtentLemmas
 pub mod JoinedStays
+pub mod FitLemmas
 pub mod Leaves
 pub mod OnwardFacts
 pub mod PeriodChanges

@@ -17,15 +17,15 @@ use Rattle.gtd_spans.specs.facts.NormalFor.{combined-both, combined-in, normal-f
 use Rattle.gtd_eval.specs.Chains.{AllHold, ChainHolds, IsChainOf, IsChainOfLast, AreTerms}
 use Rattle.gtd_eval.specs.Exprs.{right_of, IsBasic, IsBasicChain, IsOfExpr, expr_work}
 use Rattle.gtd_eval.specs.Membership.{InTree, IsNormalOver}
-use Rattle.gtd_eval.specs.Nodes.{node_list, node_count, node_height, node_work}
+use Rattle.gtd_eval.specs.Nodes.{node_whole, node_list, node_count, node_height, node_work}
 use Rattle.gtd_eval.specs.Periods.{AllRepeat}
 use Rattle.gtd_kept.specs.Repeating.{AreKept}
 use Rattle.gtd_kept.specs.declared.repeat.Stage.TheVariants.{Learning}
 use Rattle.gtd_eval.specs.facts.PeriodFacts.{tree-repeats-after, some-period}
 use Rattle.gtd_kept.proofs.RepeatLemmas.{repeat-fits}
-use Rattle.gtd_eval.specs.Cursors.{cursor_list, cursor_nodes, cursor_height, cursor_work, cursor_size}
+use Rattle.gtd_eval.specs.Cursors.{IsAtStart, AllAtStart, cursor_list, cursor_nodes, cursor_height, cursor_work, cursor_size}
 use Rattle.gtd_eval.specs.Cursors.{total_nodes, total_work, NoneHigher}
-use Rattle.gtd_eval.specs.facts.CursorFacts.{some-append, nodes-append, work-append, higher-append}
+use Rattle.gtd_eval.specs.facts.CursorFacts.{some-append, nodes-append, work-append, higher-append, start-append}
 use Rattle.gtd_recur.specs.Periods.{period_seconds}
 use Rattle.gtd_recur.specs.declared.period.Period.{Period}
 use Rattle.gtd_eval.specs.declared.leaf.Leaf.{Ghosts}
@@ -95,6 +95,31 @@ module _ {L : Type 0} {g : Ghosts L} where
       let hr : node_height g r ≤ h + j = v.height h j parts.1 lb in
       omega arith
 
+  start-both : (ls rs : List (SweepTree L g)) → AllAtStart (ls ++ rs) → AllAtStart ls × AllAtStart rs
+  start-both [] rs a = (tt, a)
+  start-both (c ∷ ls) rs a = let i = start-both ls rs a.1 in ((a.0, i.0), i.1)
+
+  -- two chains that have their whole lists to hand out, joined
+  pub two-start : (op to : Op) (ls rs : List (SweepTree L g)) (l r : Node L) (xs : List Interval)
+      → xs ≡ combine op (node_list g l) (node_list g r) → IsChainOf op ls l → IsChainOf to rs r → AllAtStart (ls ++ rs)
+      → xs ≡ combine op (node_whole g l) (node_whole g r)
+  two-start op to ls rs l r xs e u v a =
+      let parts = start-both ls rs a in
+      e ∙ ap (λ (ys : List Interval). combine op ys (node_list g r)) (u.start parts.0)
+      ∙ ap (λ (ys : List Interval). combine op (node_whole g l) ys) (v.start parts.1)
+
+  -- a cursor without another
+  pub minus-start : (a b : SweepTree L g) (xs : List Interval) → xs ≡ combine Minus (cursor_list a) (cursor_list b)
+      → IsAtStart a → IsAtStart b → xs ≡ combine Minus (node_whole g a.node) (node_whole g b.node)
+  minus-start a b xs e s t =
+      e ∙ ap (λ (ys : List Interval). combine Minus ys (cursor_list b)) s
+      ∙ ap (λ (ys : List Interval). combine Minus (node_whole g a.node) ys) t
+
+  -- the tree of all terms
+  pub terms-start : (op : Op) (e : Tree) (h : Horizon) (w : ℕ) (xs bs : List (SweepTree L g)) (n : Node L)
+      → (given : AreTerms op e h w xs bs) → IsChainOf op given.terms n → node_list g n ≡ node_whole g n
+  terms-start op e h w xs bs n given chain = chain.start given.start
+
   -- a list of which ls many were taken off ls it has
   pub all-taken : (xs ys zs : List (SweepTree L g)) → xs ≡ ys ++ zs → length zs ≡ length xs → zs ≡ xs
   all-taken xs [] zs e n = sym e
@@ -135,6 +160,7 @@ module _ {L : Type 0} {g : Ghosts L} where
         let y = right.low b.2 in
         (higher-both 1 left.terms right.terms x.0 y.0, omega (arith, length-append left.terms right.terms, x.1, y.1));
     lone = λ other k differ b le. absurd (differ b.0);
+    start = start-append left.terms right.terms left.start right.start;
   }
 
   -- the same of two expressions, and of others that are equal to them
@@ -162,8 +188,8 @@ module _ {L : Type 0} {g : Ghosts L} where
       → cursor_nodes c + 1 ≡ 2 * leaf_count e → cursor_work c ≡ w
       → (IsBasicChain op e → (cursor_height c ≤ 1) × (1 ≡ leaf_count e))
       → ((other : Op) (k : ℕ) → IsBasicChain other e → leaf_count e ≤ 2 ^ k → cursor_height c ≤ 1 + k)
-      → AreTerms op e h w xs cs
-  one-term op e h w xs bs cs c same pushed is nodes work low lone = record {
+      → IsAtStart c → AreTerms op e h w xs cs
+  one-term op e h w xs bs cs c same pushed is nodes work low lone start = record {
     terms = c ∷ [];
     split = pushed ∙ ap (λ (l : List (SweepTree L g)). l ++ (c ∷ [])) (sym same);
     some = omega arith;
@@ -172,6 +198,7 @@ module _ {L : Type 0} {g : Ghosts L} where
     total = omega (arith, work);
     low = λ b. (((low b).0, tt), (low b).1);
     lone = λ other k differ b le. ((lone other k b le, tt), omega arith);
+    start = (start, tt);
   }
 
   -- the tree of a chain of basic domains is balanced
@@ -220,15 +247,15 @@ module _ {L : Type 0} {g : Ghosts L} where
   -- the leaf of a whole expression, put behind a list, is its only term
   pub whole-term : (op : Op) (expr : Expr) (h : Horizon) (xs bs : List (SweepTree L g)) (c : SweepTree L g)
       → bs ≡ xs ++ (c ∷ []) → IsOfExpr expr h (cursor_list c) (cursor_size c)
-      → (IsBasicChain op (tree_of expr) → IsBasic (tree_of expr))
+      → (IsBasicChain op (tree_of expr) → IsBasic (tree_of expr)) → IsAtStart c
       → AreTerms op (tree_of expr) h (expr_work expr h) xs bs
-  whole-term op expr h xs bs c pushed of basic =
+  whole-term op expr h xs bs c pushed of basic start =
       one-term op (tree_of expr) h (expr_work expr h) xs xs bs c refl pushed
       (λ t. is-in (InTree (tree_of expr)) (whole h).from (whole h).until (cursor_list c) of.normal t)
       of.nodes of.work
       (λ b. let one = basic-one (tree_of expr) (basic b) in
       (omega (arith, of.height op 0 b (omega (arith, one))), omega (arith, one)))
-      (λ other k b le. omega (arith, of.height other k b le))
+      (λ other k b le. omega (arith, of.height other k b le)) start
 
 -- the list of an expression that repeats
 pub expr-fits : (e : Tree) (h : Horizon) (xs : List Interval) (x : Period)

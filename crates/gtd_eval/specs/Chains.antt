@@ -8,8 +8,8 @@ use Rattle.gtd_core.specs.declared.horizon.Horizon.{Horizon}
 use Rattle.gtd_spans.specs.Normal.{Holds, IsIn}
 use Rattle.gtd_eval.specs.Exprs.{IsBasicChain}
 use Rattle.gtd_eval.specs.Membership.{InTree}
-use Rattle.gtd_eval.specs.Nodes.{node_list, node_count, node_height, node_work, IsSoundNode}
-use Rattle.gtd_eval.specs.Cursors.{cursor_list, SomeHolds, total_nodes, total_work, NoneHigher}
+use Rattle.gtd_eval.specs.Nodes.{node_list, node_whole, node_count, node_height, node_work, IsSoundNode}
+use Rattle.gtd_eval.specs.Cursors.{cursor_list, SomeHolds, AllAtStart, total_nodes, total_work, NoneHigher}
 use Rattle.gtd_eval.specs.declared.leaf.Leaf.{Ghosts}
 use Rattle.gtd_eval.specs.declared.node.Node.{Node}
 use Rattle.gtd_eval.specs.declared.tree.SweepTree.{SweepTree}
@@ -34,6 +34,7 @@ module _ {L : Type 0} {g : Ghosts L} where
     pub nodes : node_count g n + 1 ≡ total_nodes cs + length cs
     pub work : node_work g n ≡ total_work cs
     pub height : (h k : ℕ) → NoneHigher h cs → length cs ≤ 2 ^ k → node_height g n ≤ h + k
+    pub start : AllAtStart cs → node_list g n ≡ node_whole g n
 
   -- the tree is the chain of so many cursors at the end of a list, which were taken off it
   pub record IsChainOfLast (op : Op) (count : ℕ) (before : List (SweepTree L g)) (n : Node L) (after : List (SweepTree L g))
@@ -45,7 +46,8 @@ module _ {L : Type 0} {g : Ghosts L} where
 
   -- Cursors were appended to a list. Their chain by the operator has the seconds of the expression in the horizon. Together
   -- they have that work and, with one node for each join of two, the nodes of its tree. A chain of basic domains by that
-  -- operator gives one low cursor for each, and one by another operator a single cursor of a balanced tree.
+  -- operator gives one low cursor for each, and one by another operator a single cursor of a balanced tree. None of them has
+  -- handed out anything.
   pub record AreTerms (op : Op) (e : Tree) (h : Horizon) (work : ℕ) (before after : List (SweepTree L g)) : Type 0 where
     pub terms : List (SweepTree L g)
     pub split : after ≡ before ++ terms
@@ -56,3 +58,4 @@ module _ {L : Type 0} {g : Ghosts L} where
     pub low : IsBasicChain op e → NoneHigher 1 terms × (length terms ≡ leaf_count e)
     pub lone : (other : Op) (k : ℕ) → (op ≡ other → ⊥) → IsBasicChain other e → leaf_count e ≤ 2 ^ k
         → NoneHigher (1 + k) terms × (length terms ≡ 1)
+    pub start : AllAtStart terms

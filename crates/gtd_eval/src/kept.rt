@@ -1,9 +1,9 @@
 //! Cursors that keep the spans of a period, from which all later ones follow.
 
-ghost use Rattle.std.specs.Prelude.{◌≤◌};
-ghost use Rattle.gtd_eval.specs.Cursors.{cursor_list, cursor_nodes};
-ghost use Rattle.gtd_kept.specs.Kept.{HasKept};
-ghost use Rattle.gtd_kept.specs.facts.RepeatProps.{AreKept-prop};
+ghost use Rattle.std.specs.Prelude.{◌≤◌, ◌+◌, ◌*◌};
+ghost use Rattle.gtd_eval.specs.Cursors.{cursor_list, cursor_whole, cursor_nodes};
+ghost use Rattle.gtd_kept.specs.Kept.{FitsTree};
+ghost use Rattle.gtd_kept.specs.facts.KeptProps.{FitsTree-prop};
 
 use crate::cursor::Cursor;
 use crate::leaf::Leaf;
@@ -21,8 +21,9 @@ use std::alloc::{AllocError, Global};
 pub struct KeptPeriod {
     pub(crate) inner: Cursor,
     pub(crate) again: Repeat,
-    ghost kept: { HasKept again (cursor_list inner) } by { AreKept-prop _ _ _ _ _ },
+    ghost kept: { FitsTree again (cursor_list inner) (cursor_whole inner) } by { FitsTree-prop again _ _ },
     ghost some: { 1 ≤ cursor_nodes inner },
+    ghost room: { again.room ≤ 16 * (cursor_nodes inner + 1) },
 }
 
 impl KeptPeriod {
@@ -32,15 +33,16 @@ impl KeptPeriod {
     ghost use Rattle.gtd_core.specs.Whole.{whole};
     ghost use Rattle.gtd_recur.specs.Periods.{period_seconds};
     ghost use Rattle.gtd_spans.specs.Sweeping.{Takes};
-    ghost use Rattle.gtd_eval.specs.Cursors.{cursor_list, cursor_size};
+    ghost use Rattle.gtd_eval.specs.Cursors.{cursor_list, cursor_size, cursor_whole, IsAtStart};
     ghost use Rattle.gtd_eval.specs.Exprs.{IsOfExpr};
-    ghost use Rattle.gtd_kept.specs.Kept.{HasKept};
-    ghost use Rattle.gtd_eval.specs.Keeping.{period_list, period_size};
+    ghost use Rattle.gtd_kept.specs.Kept.{FitsTree, rest_of};
+    ghost use Rattle.gtd_eval.specs.Keeping.{period_list, period_size, period_whole};
     ghost use Rattle.gtd_eval.specs.Periods.{AllRepeat};
-    ghost use Rattle.gtd_kept.specs.Repeating.{AreKept, IsRepeating, to_come};
+    ghost use Rattle.gtd_kept.specs.Repeating.{AreKept, IsRepeating};
     ghost use Rattle.gtd_kept.specs.declared.repeat.Stage.TheVariants.{Learning};
 
-    // The same cursor, of which no span is kept yet. If the horizon has fewer than three periods, none will be.
+    // The same cursor, of which no span is kept yet. If it has handed out spans, or if the horizon has fewer than three periods,
+    // none will be.
     fn new(
         alloc: Global,
         inner: Cursor,
@@ -51,7 +53,7 @@ impl KeptPeriod {
         ensures list { IfOk result (λ kept. period_list kept ≡ cursor_list inner) }
         ensures inner { IfOk result (λ kept. kept.inner ≡ inner) }
     {
-        if is_long(period, horizon) {
+        if !inner.moved && is_long(period, horizon) {
             let again = Repeat::new(alloc, period, horizon, room_for(inner.nodes()))?;
             return Ok(KeptPeriod { inner, again });
         }
@@ -69,6 +71,7 @@ impl KeptPeriod {
         requires few { leaf_count (tree_of expr.now) ≤ most_basic_domains }
         requires repeats { AllRepeat (period_seconds period) (tree_of expr.now) }
         ensures whole { IfOk result (λ kept. IsOfExpr expr.now horizon (period_list kept) (period_size kept)) }
+        ensures start { IfOk result (λ kept. period_list kept ≡ period_whole kept) }
     {
         let inner = SweepTree::<Runs>::of_expr(alloc, expr, horizon)?;
         KeptPeriod::new(alloc, inner, period, horizon)
@@ -78,33 +81,69 @@ impl KeptPeriod {
     #[inline(never)]
     fn next_learnt(inner: &mut Cursor, again: &mut Repeat) -> Option<Span>
         requires learning { IsRepeating again.old.stage → ⊥ }
-        requires kept { HasKept again.old (cursor_list inner.old) }
-        ensures kept { HasKept again.new (cursor_list inner.new) }
-        ensures takes { Takes (to_come again.old.stage (cursor_list inner.old)) result
-            (to_come again.new.stage (cursor_list inner.new)) }
+        requires kept { FitsTree again.old (cursor_list inner.old) (cursor_whole inner.old) }
+        ensures kept { FitsTree again.new (cursor_list inner.new) (cursor_whole inner.new) }
+        ensures takes { Takes (rest_of again.old (cursor_list inner.old)) result (rest_of again.new (cursor_list inner.new)) }
         ensures size { cursor_size inner.new ≡ cursor_size inner.old }
+        ensures whole { cursor_whole inner.new ≡ cursor_whole inner.old }
+        ensures room { again.new.room ≡ again.old.room }
     {
-        let Some(span) = inner.next() else {
-            return None;
-        };
-        again.keep(span);
-        Some(span)
+        match inner.next() {
+            Some(span) => {
+                again.keep(span);
+                Some(span)
+            }
+            None => None,
+        }
     }
 
     // The next span: from the kept spans, once all of a period are kept. That is nearly always so: such a span is then handed
     // out without a call.
     #[inline(always)]
     fn next_kept(inner: &mut Cursor, again: &mut Repeat) -> Option<Span>
-        requires kept { HasKept again.old (cursor_list inner.old) }
-        ensures kept { HasKept again.new (cursor_list inner.new) }
-        ensures takes { Takes (to_come again.old.stage (cursor_list inner.old)) result
-            (to_come again.new.stage (cursor_list inner.new)) }
+        requires kept { FitsTree again.old (cursor_list inner.old) (cursor_whole inner.old) }
+        ensures kept { FitsTree again.new (cursor_list inner.new) (cursor_whole inner.new) }
+        ensures takes { Takes (rest_of again.old (cursor_list inner.old)) result (rest_of again.new (cursor_list inner.new)) }
         ensures size { cursor_size inner.new ≡ cursor_size inner.old }
+        ensures whole { cursor_whole inner.new ≡ cursor_whole inner.old }
+        ensures room { again.new.room ≡ again.old.room }
     {
         if again.is_repeating() {
-            return again.turn();
+            return KeptPeriod::next_repeated(inner, again);
         }
         KeptPeriod::next_learnt(inner, again)
+    }
+
+    // The next span, where all of a period are kept: after a new beginning, first those that came before they were.
+    #[inline(always)]
+    fn next_repeated(_inner: &Cursor, again: &mut Repeat) -> Option<Span>
+        requires repeating { IsRepeating again.old.stage }
+        requires kept { FitsTree again.old (cursor_list _inner.now) (cursor_whole _inner.now) }
+        ensures kept { FitsTree again.new (cursor_list _inner.now) (cursor_whole _inner.now) }
+        ensures takes { Takes (rest_of again.old (cursor_list _inner.now)) result (rest_of again.new (cursor_list _inner.now)) }
+        ensures room { again.new.room ≡ again.old.room }
+    {
+        match again.next_again() {
+            Some(span) => Some(span),
+            None => again.turn(),
+        }
+    }
+
+    // Begins again with the first span. Kept spans are kept on; if not all of a period are, none will be.
+    fn begin_again(inner: &mut Cursor, again: &mut Repeat)
+        requires kept { FitsTree again.old (cursor_list inner.old) (cursor_whole inner.old) }
+        ensures kept { FitsTree again.new (cursor_list inner.new) (cursor_whole inner.new) }
+        ensures list { rest_of again.new (cursor_list inner.new) ≡ cursor_whole inner.old }
+        ensures size { cursor_size inner.new ≡ cursor_size inner.old }
+        ensures whole { cursor_whole inner.new ≡ cursor_whole inner.old }
+        ensures room { again.new.room ≡ again.old.room }
+    {
+        if again.is_repeating() {
+            again.begin_again();
+            return;
+        }
+        inner.begin_again();
+        again.give_up();
     }
 }
 
@@ -123,16 +162,21 @@ pub enum Part {
 pub type KeptCursor = SweepTree<Part>;
 
 impl Leaf for Part {
-    ghost use Rattle.gtd_eval.specs.Keeping.{part_list, part_size, part_ticks, part_kept};
-    ghost use Rattle.gtd_eval.specs.facts.PartFacts.{part-normal, part-small, part-few, part-kept-few};
+    ghost use Rattle.gtd_eval.specs.Keeping.{part_list, part_whole, part_size, part_ticks, part_kept, part_told};
+    ghost use Rattle.gtd_eval.specs.facts.PartFacts.{part-normal, part-whole-normal, part-small, part-few};
+    ghost use Rattle.gtd_eval.specs.facts.PartFacts.{part-kept-few, part-kept-by-nodes, part-told-few};
 
     ghost leaf_list = { part_list };
+
+    ghost leaf_whole = { part_whole };
 
     ghost leaf_size = { part_size };
 
     ghost leaf_ticks = { part_ticks };
 
     ghost leaf_kept = { part_kept };
+
+    ghost leaf_told = { part_told };
 
     fn of_expr(alloc: Global, expr: &Expr, horizon: Horizon) -> Result<Option<Part>, AllocError> {
         if let Some(period) = period_of_all(expr) {
@@ -152,6 +196,13 @@ impl Leaf for Part {
         match self {
             Part::Basic(runs) => runs.next(),
             Part::Repeating(kept) => KeptPeriod::next_kept(&mut kept.inner, &mut kept.again),
+        }
+    }
+
+    fn begin_again(&mut self) {
+        match self {
+            Part::Basic(runs) => runs.begin_again(),
+            Part::Repeating(kept) => KeptPeriod::begin_again(&mut kept.inner, &mut kept.again),
         }
     }
 
@@ -178,9 +229,15 @@ impl Leaf for Part {
 
     ghost is_normal = { part-normal };
 
+    ghost is_whole_normal = { part-whole-normal };
+
     ghost is_small = { part-small };
 
     ghost keeps_few = { part-kept-few };
+
+    ghost keeps_by_nodes = { part-kept-by-nodes };
+
+    ghost tells_few = { part-told-few };
 
     ghost has_few = { part-few };
 }
@@ -191,12 +248,12 @@ impl SweepTree<Part> {
     ghost use Rattle.gtd_core.specs.Whole.{whole};
     ghost use Rattle.gtd_recur.specs.Periods.{period_seconds};
     ghost use Rattle.gtd_spans.specs.Normal.{Holds};
-    ghost use Rattle.gtd_eval.specs.Cursors.{cursor_list, cursor_nodes, cursor_height, cursor_work};
+    ghost use Rattle.gtd_eval.specs.Cursors.{cursor_list, cursor_nodes, cursor_height, cursor_work, IsAtStart};
 
     /// The cursor that keeps the spans of a period of another cursor. The seconds that that one still hands out must be in the
     /// horizon, and repeat after the period as far as the horizon reaches. If there are more spans in a period than there is
-    /// room for, or if the horizon has fewer than three periods, it finds each span anew. After a refusal of memory the cursor
-    /// is gone.
+    /// room for, if the horizon has fewer than three periods, or if the cursor may have handed out a span already, it finds each
+    /// span anew. After a refusal of memory the cursor is gone.
     pub fn repeating(
         alloc: Global,
         cursor: Cursor,
@@ -210,10 +267,14 @@ impl SweepTree<Part> {
         ensures nodes { IfOk result (λ c. cursor_nodes c ≡ cursor_nodes cursor) }
         ensures height { IfOk result (λ c. cursor_height c ≡ cursor_height cursor) }
         ensures work { IfOk result (λ c. cursor_work c ≡ cursor_work cursor) }
+        ensures start { IsAtStart cursor → IfOk result IsAtStart }
     {
+        let moved = cursor.moved;
         let kept = KeptPeriod::new(alloc, cursor, period, horizon)?;
+        let leaf = Box::new(alloc, Part::Repeating(kept))?;
         Ok(SweepTree {
-            node: Node::Leaf(Part::Repeating(kept)),
+            node: Node::Leaf(leaf),
+            moved,
         })
     }
 }

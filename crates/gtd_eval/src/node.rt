@@ -3,30 +3,30 @@
 ghost use Rattle.std.specs.Prelude.{◌≡◌, []};
 ghost use Rattle.gtd_core.specs.Limits.{most_nodes};
 ghost use Rattle.gtd_spans.specs.Sweeping.{still, Fits, HasOneSide, Takes};
-ghost use Rattle.gtd_eval.specs.Nodes.{node_list, node_shape, IsSoundNode};
+ghost use Rattle.gtd_eval.specs.Nodes.{node_list, node_shape, node_whole, IsSoundNode};
 
 use crate::leaf::Leaf;
-use gtd_core::Span;
+use gtd_core::{Horizon, Op, Span};
 use gtd_spans::{Ask, Sweep};
 
 /// A node of a tree: at most one fixed span, or a leaf, or a sweep over one or two boxed nodes. It holds no collection.
 #[derive(Debug, Drop)]
 pub enum Node<L> {
-    /// One span, or none.
-    Fixed(Option<Span>),
-    /// A leaf.
-    Leaf(L),
-    /// A sweep over one node.
-    One(Sweep, Box<Node<L>>),
-    /// A sweep over a left and a right node. These lie in one box, which takes less memory, and less time to make, than a box
-    /// for each.
-    Two(Sweep, Box<(Node<L>, Node<L>)>),
+    /// One span, or none, that is still to come, and the one that was to come at first.
+    Fixed(Option<Span>, Option<Span>),
+    /// A leaf, in a box: it is large, and a node is moved as its tree is made.
+    Leaf(Box<L>),
+    /// A sweep over one node, of the seconds of a horizon that are not in it.
+    One(Sweep, Horizon, Box<Node<L>>),
+    /// A sweep of an operator over a left and a right node. These lie in one box, which takes less memory, and less time to make,
+    /// than a box for each.
+    Two(Sweep, Op, Box<(Node<L>, Node<L>)>),
 }
 
 impl<L: Leaf> Node<L> {
     ghost use Rattle.std.specs.Prelude.{◌≡◌, ◌≤◌, ◌*◌};
     ghost use Rattle.gtd_spans.specs.Sweeping.{Takes};
-    ghost use Rattle.gtd_eval.specs.Nodes.{node_list, node_shape, node_count, node_work, IsSoundNode, node_ticks};
+    ghost use Rattle.gtd_eval.specs.Nodes.{node_list, node_whole, node_shape, node_count, node_work, IsSoundNode, node_ticks};
     ghost use Rattle.gtd_eval.specs.Nodes.{node_kept, node_periods};
 
     /// Takes the first span off the list that is still to come. Most spans come from leaves: these are handed out without a call.
@@ -37,14 +37,39 @@ impl<L: Leaf> Node<L> {
         ensures sound { IsSoundNode L.Leaf self.new }
         ensures takes { Takes (node_list L.Leaf self.old) result (node_list L.Leaf self.new) }
         ensures shape { node_shape L.Leaf self.new ≡ node_shape L.Leaf self.old }
+        ensures whole { node_whole L.Leaf self.new ≡ node_whole L.Leaf self.old }
     {
         match self {
-            Node::Fixed(span) => span.take(),
+            Node::Fixed(span, _) => span.take(),
             Node::Leaf(leaf) => leaf.next_span(),
-            Node::One(sweep, inner) => next_of_one(sweep, inner),
-            Node::Two(sweep, both) => {
+            Node::One(sweep, _, inner) => next_of_one(sweep, inner),
+            Node::Two(sweep, _, both) => {
                 let (left, right) = &mut **both;
                 next_of_two(sweep, left, right)
+            }
+        }
+    }
+
+    /// Begins again with the first span. This takes no memory.
+    pub(crate) fn begin_again(&mut self)
+        requires sound { IsSoundNode L.Leaf self.old }
+        ensures sound { IsSoundNode L.Leaf self.new }
+        ensures list { node_list L.Leaf self.new ≡ node_whole L.Leaf self.old }
+        ensures shape { node_shape L.Leaf self.new ≡ node_shape L.Leaf self.old }
+        ensures whole { node_whole L.Leaf self.new ≡ node_whole L.Leaf self.old }
+    {
+        match self {
+            Node::Fixed(span, first) => *span = *first,
+            Node::Leaf(leaf) => leaf.begin_again(),
+            Node::One(sweep, horizon, inner) => {
+                inner.begin_again();
+                *sweep = Sweep::outside(*horizon);
+            }
+            Node::Two(sweep, op, both) => {
+                let (left, right) = &mut **both;
+                left.begin_again();
+                right.begin_again();
+                *sweep = Sweep::new(*op);
             }
         }
     }
@@ -55,10 +80,10 @@ impl<L: Leaf> Node<L> {
         ensures value { result ≡ node_count L.Leaf self.now }
     {
         match self {
-            Node::Fixed(_) => 1,
+            Node::Fixed(..) => 1,
             Node::Leaf(leaf) => leaf.nodes(),
-            Node::One(_, inner) => 1 + inner.count(),
-            Node::Two(_, both) => 1 + both.0.count() + both.1.count(),
+            Node::One(_, _, inner) => 1 + inner.count(),
+            Node::Two(_, _, both) => 1 + both.0.count() + both.1.count(),
         }
     }
 
@@ -69,10 +94,10 @@ impl<L: Leaf> Node<L> {
         ensures at_most { result ≤ node_work L.Leaf self.now }
     {
         match self {
-            Node::Fixed(_) => 0,
+            Node::Fixed(..) => 0,
             Node::Leaf(leaf) => leaf.ticks(),
-            Node::One(_, inner) => inner.ticks(),
-            Node::Two(_, both) => both.0.ticks() + both.1.ticks(),
+            Node::One(_, _, inner) => inner.ticks(),
+            Node::Two(_, _, both) => both.0.ticks() + both.1.ticks(),
         }
     }
 
@@ -82,10 +107,10 @@ impl<L: Leaf> Node<L> {
         ensures value { result ≡ node_kept L.Leaf self.now }
     {
         match self {
-            Node::Fixed(_) => 0,
+            Node::Fixed(..) => 0,
             Node::Leaf(leaf) => leaf.kept(),
-            Node::One(_, inner) => inner.kept(),
-            Node::Two(_, both) => both.0.kept() + both.1.kept(),
+            Node::One(_, _, inner) => inner.kept(),
+            Node::Two(_, _, both) => both.0.kept() + both.1.kept(),
         }
     }
 }
@@ -103,6 +128,7 @@ fn next_of_one<L: Leaf>(sweep: &mut Sweep, inner: &mut Node<L>) -> Option<Span>
     ensures takes { Takes (still sweep.old (node_list L.Leaf inner.old) []) result
         (still sweep.new (node_list L.Leaf inner.new) []) }
     ensures shape { node_shape L.Leaf inner.new ≡ node_shape L.Leaf inner.old }
+    ensures whole { node_whole L.Leaf inner.new ≡ node_whole L.Leaf inner.old }
 {
     loop {
         match sweep.step() {
@@ -131,6 +157,8 @@ fn next_of_two<L: Leaf>(sweep: &mut Sweep, left: &mut Node<L>, right: &mut Node<
         (still sweep.new (node_list L.Leaf left.new) (node_list L.Leaf right.new)) }
     ensures left_shape { node_shape L.Leaf left.new ≡ node_shape L.Leaf left.old }
     ensures right_shape { node_shape L.Leaf right.new ≡ node_shape L.Leaf right.old }
+    ensures left_whole { node_whole L.Leaf left.new ≡ node_whole L.Leaf left.old }
+    ensures right_whole { node_whole L.Leaf right.new ≡ node_whole L.Leaf right.old }
 {
     loop {
         match sweep.step() {

@@ -40,7 +40,7 @@ impl<L: Leaf> SweepTree<L> {
     ghost use Rattle.gtd_core.specs.Trees.{Joined, leaf_count, tree_of};
     ghost use Rattle.gtd_core.specs.declared.domain.Op as declared;
     ghost use Rattle.gtd_eval.specs.Chains.{AreTerms};
-    ghost use Rattle.gtd_eval.specs.Cursors.{cursor_list, cursor_nodes, cursor_height, cursor_work, cursor_size, domain_work};
+    ghost use Rattle.gtd_eval.specs.Cursors.{cursor_list, cursor_nodes, cursor_height, cursor_work, cursor_size, domain_work, IsAtStart};
     ghost use Rattle.gtd_eval.specs.Exprs.{IsBasic, IsBasicChain, IsOfExpr, expr_work};
     ghost use Rattle.gtd_eval.specs.Membership.{InDomain, IsNormalOver};
     ghost use Rattle.gtd_eval.specs.declared.tree.SweepTree.{SweepTree as declared_tree};
@@ -68,6 +68,7 @@ impl<L: Leaf> SweepTree<L> {
         ensures work { IfOk result (λ c. cursor_work c ≡ domain_work domain.now horizon) }
         ensures height { (op : declared.Op) (k : ℕ) → IsBasicChain op (domain_tree domain.now)
             → leaf_count (domain_tree domain.now) ≤ 2 ^ k → IfOk result (λ c. cursor_height c ≤ k + 1) }
+        ensures start { IfOk result IsAtStart }
     {
         SweepTree::<L>::of_expr(alloc, domain.expr(), horizon)
     }
@@ -80,12 +81,17 @@ impl<L: Leaf> SweepTree<L> {
     ) -> Result<SweepTree<L>, AllocError>
         requires few { leaf_count (tree_of expr.now) ≤ most_basic_domains }
         ensures whole { IfOk result (λ c. IsOfExpr expr.now horizon (cursor_list c) (cursor_size c)) }
+        ensures start { IfOk result IsAtStart }
     {
         let found = L::of_expr(alloc, expr, horizon)?;
         match found {
-            Some(leaf) => Ok(SweepTree {
-                node: Node::Leaf(leaf),
-            }),
+            Some(leaf) => {
+                let leaf = Box::new(alloc, leaf)?;
+                Ok(SweepTree {
+                    node: Node::Leaf(leaf),
+                    moved: false,
+                })
+            }
             None => SweepTree::<L>::balanced(alloc, expr, horizon),
         }
     }
@@ -94,12 +100,13 @@ impl<L: Leaf> SweepTree<L> {
     fn balanced(alloc: Global, expr: &Expr, horizon: Horizon) -> Result<SweepTree<L>, AllocError>
         requires few { leaf_count (tree_of expr.now) ≤ most_basic_domains }
         ensures whole { IfOk result (λ c. IsOfExpr expr.now horizon (cursor_list c) (cursor_size c)) }
+        ensures start { IfOk result IsAtStart }
     {
         let mut cursors = Vec::with_capacity(alloc, basic_domains(expr))?;
         SweepTree::<L>::push_terms(alloc, Op::Union, expr, horizon, &mut cursors)?;
         let count = cursors.len();
         let node = SweepTree::<L>::join_last(alloc, Op::Union, &mut cursors, count)?;
-        Ok(SweepTree { node })
+        Ok(SweepTree { node, moved: false })
     }
 
     // Appends cursors for an expression to a list: one for each term of a chain of the operator, and a single one for
@@ -162,8 +169,10 @@ impl<L: Leaf> SweepTree<L> {
         let Some(leaf) = L::of_expr(alloc, expr, horizon)? else {
             return Ok(false);
         };
+        let leaf = Box::new(alloc, leaf)?;
         cursors.push(SweepTree {
             node: Node::Leaf(leaf),
+            moved: false,
         })?;
         Ok(true)
     }
@@ -192,7 +201,7 @@ impl<L: Leaf> SweepTree<L> {
             (expr_work _left.now _horizon + expr_work _right.now _horizon) before cursors.new.items) }
     {
         let node = SweepTree::<L>::join_last(alloc, inner, cursors, count)?;
-        cursors.push(SweepTree { node })?;
+        cursors.push(SweepTree { node, moved: false })?;
         Ok(())
     }
 }

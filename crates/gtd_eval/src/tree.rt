@@ -1,9 +1,9 @@
 //! Trees of sweeps whose parts fit together, and how they are joined.
 
-ghost use Rattle.std.specs.Prelude.{◌≤◌};
+ghost use Rattle.std.specs.Prelude.{◌≤◌, IsFalse};
 ghost use Rattle.gtd_core.specs.Limits.{most_nodes};
-ghost use Rattle.gtd_eval.specs.Nodes.{node_count, IsSoundNode};
-ghost use Rattle.gtd_eval.specs.facts.NodeFacts.{IsSoundNode-prop};
+ghost use Rattle.gtd_eval.specs.Nodes.{node_count, IsSoundNode, IsStill};
+ghost use Rattle.gtd_eval.specs.facts.NodeFacts.{IsSoundNode-prop, IsStill-prop};
 
 use crate::leaf::Leaf;
 use crate::node::Node;
@@ -15,6 +15,9 @@ use std::alloc::{AllocError, Global};
 #[derive(Drop)]
 pub struct SweepTree<L: Leaf> {
     pub(crate) node: Node<L>,
+    /// Whether it may have handed out a span since it began.
+    pub(crate) moved: bool,
+    ghost still: { IsStill L.Leaf moved node } by { IsStill-prop L.Leaf moved node },
     ghost sound: { IsSoundNode L.Leaf node } by { IsSoundNode-prop L.Leaf node },
     ghost small: { node_count L.Leaf node ≤ most_nodes },
 }
@@ -22,7 +25,7 @@ pub struct SweepTree<L: Leaf> {
 impl<L: Leaf> SpanSource for SweepTree<L> {
     ghost use Rattle.std.specs.Prelude.{◌≡◌};
     ghost use Rattle.gtd_spans.specs.Sweeping.{Takes};
-    ghost use Rattle.gtd_eval.specs.Cursors.{cursor_list, cursor_size};
+    ghost use Rattle.gtd_eval.specs.Cursors.{cursor_list, cursor_size, cursor_whole};
     ghost use Rattle.gtd_eval.specs.facts.NodeFacts.{node_list-normal};
 
     ghost rest = { cursor_list };
@@ -31,7 +34,9 @@ impl<L: Leaf> SpanSource for SweepTree<L> {
     fn next(&mut self) -> Option<Span>
         ensures takes { Takes (cursor_list self.old) result (cursor_list self.new) }
         ensures size { cursor_size self.new ≡ cursor_size self.old }
+        ensures whole { cursor_whole self.new ≡ cursor_whole self.old }
     {
+        self.moved = true;
         self.node.next()
     }
 
@@ -39,15 +44,16 @@ impl<L: Leaf> SpanSource for SweepTree<L> {
 }
 
 impl<L: Leaf> SweepTree<L> {
-    ghost use Rattle.std.specs.Prelude.{◌≡◌, ◌≤◌, ◌+◌, ◌*◌, ◌<◌, ◌^◌, ◌↔◌, [], ◌∷◌, ℕ, ℤ, IfOk, vec_len};
+    ghost use Rattle.std.specs.Prelude.{◌≡◌, ◌≤◌, ◌+◌, ◌*◌, ◌<◌, ◌^◌, ◌↔◌, [], ◌∷◌, ℕ, ℤ, IfOk, IsFalse, vec_len};
     ghost use Rattle.gtd_core.specs.Limits.{most_nodes};
     ghost use Rattle.gtd_core.specs.Seconds.{Within};
     ghost use Rattle.gtd_core.specs.Whole.{whole};
     ghost use Rattle.gtd_spans.specs.Normal.{Holds, IsNormal};
     ghost use Rattle.gtd_eval.specs.Chains.{IsChainOfLast};
     ghost use Rattle.gtd_eval.specs.Cursors.{cursor_list, cursor_nodes, cursor_ticks, cursor_height, cursor_work};
-    ghost use Rattle.gtd_eval.specs.Cursors.{cursor_kept, cursor_periods};
+    ghost use Rattle.gtd_eval.specs.Cursors.{cursor_kept, cursor_told, cursor_periods};
     ghost use Rattle.gtd_eval.specs.Cursors.{SomeHolds, total_nodes, total_work, NoneHigher};
+    ghost use Rattle.gtd_eval.specs.Cursors.{cursor_whole, cursor_size, IsAtStart, AllAtStart};
     ghost use Rattle.gtd_eval.specs.Exprs as spec;
 
     /// The cursor of all seconds of a horizon, of one node.
@@ -57,9 +63,12 @@ impl<L: Leaf> SweepTree<L> {
         ensures height { cursor_height result ≡ 1 }
         ensures work { cursor_work result ≡ 0 }
         ensures kept { cursor_periods result ≡ 0 }
+        ensures start { IsAtStart result }
     {
+        let whole = horizon.whole();
         SweepTree {
-            node: Node::Fixed(Some(horizon.whole())),
+            node: Node::Fixed(Some(whole), Some(whole)),
+            moved: false,
         }
     }
 
@@ -82,15 +91,32 @@ impl<L: Leaf> SweepTree<L> {
         ensures work { IfOk result (λ c. cursor_work c ≡ total_work cursors.items) }
         ensures height { (h k : ℕ) → 0 < vec_len cursors → NoneHigher h cursors.items
             → vec_len cursors ≤ 2 ^ k → IfOk result (λ c. cursor_height c ≤ h + k) }
+        ensures start { AllAtStart cursors.items → IfOk result IsAtStart }
     {
         let count = cursors.len();
         if count == 0 {
             return Ok(SweepTree {
-                node: Node::Fixed(None),
+                node: Node::Fixed(None, None),
+                moved: false,
             });
         }
+        let moved = SweepTree::<L>::some_moved(&cursors);
         let node = SweepTree::<L>::join_last(alloc, Op::Union, &mut cursors, count)?;
-        Ok(SweepTree { node })
+        Ok(SweepTree { node, moved })
+    }
+
+    // Whether any of the cursors may have handed out a span since it began.
+    fn some_moved(cursors: &Vec<SweepTree<L>>) -> bool
+        ensures none { IsFalse result → AllAtStart cursors.now.items }
+    {
+        let mut first = cursors.len();
+        while first > 0 {
+            first -= 1;
+            if cursors[first].moved {
+                return true;
+            }
+        }
+        false
     }
 
     // The operator that joins what is on the right in a chain: what is subtracted one after another is subtracted
@@ -146,7 +172,7 @@ impl<L: Leaf> SweepTree<L> {
         let right = SweepTree::<L>::join_last(alloc, SweepTree::<L>::right_of(op), cursors, half)?;
         let left = SweepTree::<L>::join_last(alloc, op, cursors, count - half)?;
         let both = Box::new(alloc, (left, right))?;
-        Ok(Node::Two(Sweep::new(op), both))
+        Ok(Node::Two(Sweep::new(op), op, both))
     }
 
     /// The cursor of the seconds of a horizon that are not in another cursor over it. It has one node more, and must
@@ -163,10 +189,13 @@ impl<L: Leaf> SweepTree<L> {
         ensures nodes { IfOk result (λ c. cursor_nodes c ≡ cursor_nodes cursor + 1) }
         ensures height { IfOk result (λ c. cursor_height c ≡ cursor_height cursor + 1) }
         ensures work { IfOk result (λ c. cursor_work c ≡ cursor_work cursor) }
+        ensures start { IsAtStart cursor → IfOk result IsAtStart }
     {
+        let moved = cursor.moved;
         let inner = Box::new(alloc, cursor.node)?;
         Ok(SweepTree {
-            node: Node::One(Sweep::outside(horizon), inner),
+            node: Node::One(Sweep::outside(horizon), horizon, inner),
+            moved,
         })
     }
 
@@ -183,11 +212,24 @@ impl<L: Leaf> SweepTree<L> {
         ensures normal { IfOk result (λ c. IsNormal (cursor_list c)) }
         ensures nodes { IfOk result (λ c. cursor_nodes c ≡ cursor_nodes cursor + cursor_nodes other + 1) }
         ensures work { IfOk result (λ c. cursor_work c ≡ cursor_work cursor + cursor_work other) }
+        ensures start { IsAtStart cursor → IsAtStart other → IfOk result IsAtStart }
     {
+        let moved = either_moved(cursor.moved, other.moved);
         let both = Box::new(alloc, (cursor.node, other.node))?;
         Ok(SweepTree {
-            node: Node::Two(Sweep::new(Op::Minus), both),
+            node: Node::Two(Sweep::new(Op::Minus), Op::Minus, both),
+            moved,
         })
+    }
+
+    /// Begins again with the first span, so that the whole list is to come. This takes no memory.
+    pub fn begin_again(&mut self)
+        ensures list { cursor_list self.new ≡ cursor_whole self.old }
+        ensures whole { cursor_whole self.new ≡ cursor_whole self.old }
+        ensures size { cursor_size self.new ≡ cursor_size self.old }
+    {
+        self.node.begin_again();
+        self.moved = false;
     }
 
     /// The number of nodes of its tree. `next` does not change it.
@@ -206,14 +248,27 @@ impl<L: Leaf> SweepTree<L> {
         self.node.ticks()
     }
 
-    /// The spans that it keeps: at most 4,096 for each period that is kept, of which there are no more than nodes. `next` does
-    /// not change the number of periods.
+    /// The spans that it keeps of its periods: at most 16 for each node and one more, and at most 4,096 for each period, of which
+    /// there are no more than nodes. Beside them it keeps at most so many that it handed out before, and two for each period.
+    /// `next` does not change the number of periods.
     pub fn kept(&self) -> u64
         ensures value { result ≡ cursor_kept self.now }
         ensures at_most { result ≤ 4096 * cursor_periods self.now }
+        ensures by_nodes { result ≤ 16 * (cursor_nodes self.now + 1) }
+        ensures told { cursor_told self.now ≤ 16 * (cursor_nodes self.now + 1) + 2 * cursor_periods self.now }
         ensures periods { cursor_periods self.now ≤ cursor_nodes self.now }
         ensures bounded { result ≤ 4096 * most_nodes }
     {
         self.node.kept()
     }
+}
+
+// Whether one of two cursors may have handed out a span, as is said of each of them.
+fn either_moved(one: bool, other: bool) -> bool
+    ensures neither { IsFalse result → IsFalse one × IsFalse other }
+{
+    if one {
+        return true;
+    }
+    other
 }

@@ -1,11 +1,11 @@
 //! The spans of a period, from which all later ones follow.
 
-ghost use Rattle.std.specs.Prelude.{◌≤◌, ◌*ℤ◌, ◌≤ℤ◌, ◌<ℤ◌, pos, length};
+ghost use Rattle.std.specs.Prelude.{◌≡◌, ◌++◌, ◌∷◌, [], IsTrue, ◌+◌, ◌≤◌, ◌*ℤ◌, ◌≤ℤ◌, ◌<ℤ◌, pos, length};
 ghost use Rattle.gtd_core.specs.Limits.{day_seconds, first_horizon_day};
-ghost use Rattle.gtd_kept.specs.Repeating.{IsPlace, KeepsNone};
-ghost use Rattle.gtd_kept.specs.facts.RepeatProps.{IsPlace-prop, KeepsNone-prop};
+ghost use Rattle.gtd_kept.specs.Repeating.{AreLastTold, IsPlace, KeepsNone};
+ghost use Rattle.gtd_kept.specs.facts.RepeatProps.{AreLastTold-prop, IsPlace-prop, KeepsNone-prop};
 
-use crate::room::MOST_KEPT;
+use crate::room::at_most_kept;
 use gtd_core::{Horizon, Sec, Span};
 use gtd_recur::Period;
 use std::alloc::{AllocError, Global};
@@ -27,15 +27,28 @@ pub enum Stage {
 pub struct Repeat {
     /// The spans, of which the one at the place comes first.
     pub kept: Vec<Span>,
+    /// How many there may be.
+    pub room: usize,
     /// The place of the first one.
     pub place: usize,
     /// What is known of them.
     pub stage: Stage,
+    /// The spans that the tree handed out before all of a period were kept: two more at most than may be kept, since the first one
+    /// may be cut, and the last one follows from the kept ones.
+    pub told: Vec<Span>,
+    /// How many of these have been handed out since the list was begun again.
+    pub lap: usize,
+    /// The end of the last of them.
+    pub learnt: Sec,
     /// The period in seconds.
     pub period: i64,
     /// The horizon of the tree.
     pub horizon: Span,
-    pub ghost few: { length kept.items ≤ 4096 },
+    pub ghost enough: { length kept.items ≤ length told.items },
+    pub ghost last: { AreLastTold stage kept.items told.items } by { AreLastTold-prop stage kept.items told.items },
+    pub ghost few: { room ≤ 4096 },
+    pub ghost within: { length kept.items ≤ room },
+    pub ghost told_within: { length told.items ≤ room + 2 },
     ghost none: { KeepsNone stage (length kept.items) } by { KeepsNone-prop stage (length kept.items) },
     ghost among: { IsPlace place (length kept.items) stage } by { IsPlace-prop place (length kept.items) stage },
     ghost some: { pos 0 <ℤ period },
@@ -44,25 +57,31 @@ pub struct Repeat {
 }
 
 impl Repeat {
-    ghost use Rattle.std.specs.Prelude.{◌≡◌, ◌+ℤ◌, ◌≤ℤ◌, ◌<ℤ◌, ◌<◌, ◌∷◌, ◌++◌, [], List, length, drop};
-    ghost use Rattle.std.specs.Prelude.{IfOk, IsTrue, IsFalse, MatchOption};
+    ghost use Rattle.std.specs.Prelude.{◌≡◌, ◌≤◌, ◌⊎◌, ◌+ℤ◌, ◌≤ℤ◌, ◌<ℤ◌, ◌<◌, ◌∷◌, ◌++◌, [], List, length, drop};
+    ghost use Rattle.std.specs.Prelude.{IfNone, IfOk, IsTrue, IsFalse, MatchOption};
     ghost use Rattle.gtd_core.specs.Seconds.{Interval};
     ghost use Rattle.gtd_core.specs.Whole.{whole};
     ghost use Rattle.gtd_spans.specs.Normal.{IsNormal};
     ghost use Rattle.gtd_spans.specs.Sweeping.{Takes};
     ghost use Rattle.gtd_recur.specs.Periods.{period_seconds};
     ghost use Rattle.gtd_kept.specs.Repeating.{IsRepeating, later, to_come};
-    ghost use Rattle.gtd_kept.specs.Kept.{kept_list, HasKept};
+    ghost use Rattle.gtd_kept.specs.Kept.{kept_list, last_told, HasKept, CanBeginAgain, IsLapEnded, rest_of, whole_of};
     ghost use Rattle.gtd_kept.specs.declared.repeat.Stage.TheVariants.{Learning, Repeating, GivenUp};
 
     /// No span is kept, now and later.
     pub fn given_up(alloc: Global, period: Period, horizon: Horizon) -> Repeat
         ensures stage { result.stage ≡ GivenUp }
+        ensures ended { IsLapEnded result }
+        ensures room { result.room ≡ 0 }
     {
         Repeat {
             kept: Vec::new(alloc),
+            room: 0,
             place: 0,
             stage: Stage::GivenUp,
+            told: Vec::new(alloc),
+            lap: 0,
+            learnt: Sec(0),
             period: period.seconds(),
             horizon: horizon.whole(),
         }
@@ -75,7 +94,7 @@ impl Repeat {
         self.kept.len()
     }
 
-    /// Room for so many spans, none of which has been kept yet.
+    /// Room for so many spans, and at most for 4,096, none of which has been kept yet.
     pub fn new(
         alloc: Global,
         period: Period,
@@ -86,12 +105,20 @@ impl Repeat {
         ensures stage { IfOk result (λ r. r.stage ≡ Learning) }
         ensures period { IfOk result (λ r. r.period ≡ period_seconds period) }
         ensures horizon { IfOk result (λ r. r.horizon ≡ whole horizon) }
+        ensures told { IfOk result (λ r. r.told.items ≡ []) }
+        ensures ended { IfOk result IsLapEnded }
+        ensures room { IfOk result (λ r. r.room ≤ room) }
     {
+        let room = at_most_kept(room);
         let kept = Vec::with_capacity(alloc, room)?;
         Ok(Repeat {
             kept,
+            room,
             place: 0,
             stage: Stage::Learning,
+            told: Vec::with_capacity(alloc, room + 2)?,
+            lap: 0,
+            learnt: Sec(0),
             period: period.seconds(),
             horizon: horizon.whole(),
         })
@@ -157,6 +184,11 @@ impl Repeat {
         ensures stage { self.new.stage ≡ Repeating (record { 0 = span.until }) }
         ensures period { self.new.period ≡ self.old.period }
         ensures horizon { self.new.horizon ≡ self.old.horizon }
+        ensures count { length self.new.kept.items ≡ length self.old.kept.items }
+        ensures told { self.new.told ≡ self.old.told }
+        ensures lap { self.new.lap ≡ self.old.lap }
+        ensures learnt { self.new.learnt ≡ self.old.learnt }
+        ensures room { self.new.room ≡ self.old.room }
     {
         self.stage = Stage::Repeating(span.until());
         self.kept[self.place] = span;
@@ -172,11 +204,67 @@ impl Repeat {
         ensures takes { (xs : List Interval) → IsNormal xs → HasKept self.old xs
             → Takes (to_come self.old.stage xs) result (to_come self.new.stage xs) }
         ensures kept { (xs : List Interval) → IsNormal xs → HasKept self.old xs → HasKept self.new xs }
+        ensures again { (xs : List Interval) → CanBeginAgain self.old xs → CanBeginAgain self.new xs }
+        ensures ended { IsLapEnded self.old → IsLapEnded self.new }
+        ensures told { self.new.told.items ≡ self.old.told.items }
+        ensures room { self.new.room ≡ self.old.room }
     {
         let first = self.first()?;
         let span = self.a_period_later(first)?;
         self.put_last(span);
         Some(span)
+    }
+
+    /// The next span, after the list was begun again: as long as there are any, one of those that came before all of a period
+    /// were kept.
+    pub fn next_again(&mut self) -> Option<Span>
+        ensures takes { (xs : List Interval) → MatchOption result (rest_of self.old xs ≡ to_come self.old.stage xs)
+            (λ x. rest_of self.old xs ≡ x ∷ rest_of self.new xs) }
+        ensures ended { IfNone result (IsLapEnded self.new) }
+        ensures same { (xs : List Interval) → HasKept self.old xs → HasKept self.new xs }
+        ensures again { (xs : List Interval) → CanBeginAgain self.old xs → CanBeginAgain self.new xs }
+        ensures told { self.new.told.items ≡ self.old.told.items }
+        ensures stage { self.new.stage ≡ self.old.stage }
+        ensures room { self.new.room ≡ self.old.room }
+    {
+        if self.lap >= self.told.len() {
+            return None;
+        }
+        let span = self.told[self.lap];
+        self.lap += 1;
+        Some(span)
+    }
+
+    /// Begins the list again with its first span.
+    pub fn begin_again(&mut self)
+        requires repeating { IsRepeating self.old.stage }
+        ensures whole { (xs : List Interval) → CanBeginAgain self.old xs → rest_of self.new xs ≡ whole_of self.old xs }
+        ensures kept { (xs : List Interval) → CanBeginAgain self.old xs → HasKept self.new xs }
+        ensures again { (xs : List Interval) → CanBeginAgain self.old xs → CanBeginAgain self.new xs }
+        ensures told { self.new.told.items ≡ self.old.told.items }
+        ensures repeating { IsRepeating self.new.stage }
+        ensures room { self.new.room ≡ self.old.room }
+    {
+        self.put_back();
+    }
+
+    // Puts the kept spans back to how they were when all of a period were first kept.
+    fn put_back(&mut self)
+        requires repeating { IsRepeating self.old.stage }
+        requires enough { length self.old.kept.items ≤ length self.old.told.items }
+        ensures whole { (xs : List Interval) → CanBeginAgain self.old xs → rest_of self.new xs ≡ whole_of self.old xs }
+        ensures kept { (xs : List Interval) → CanBeginAgain self.old xs → HasKept self.new xs }
+        ensures again { (xs : List Interval) → CanBeginAgain self.old xs → CanBeginAgain self.new xs }
+        ensures told { self.new.told.items ≡ self.old.told.items }
+        ensures repeating { IsRepeating self.new.stage }
+        ensures room { self.new.room ≡ self.old.room }
+    {
+        let count = self.kept.len();
+        let from = self.told.len() - count;
+        self.kept.as_mut_slice().copy_from_slice(&self.told[from..]);
+        self.place = 0;
+        self.lap = 0;
+        self.stage = Stage::Repeating(self.learnt);
     }
 
     /// Keeps a span that was handed out. With the first one that is a period after the first kept one, all of a period
@@ -186,6 +274,12 @@ impl Repeat {
         ensures all { (xs : List Interval) → IsNormal (span ∷ xs) → HasKept self.old (span ∷ xs)
             → to_come self.new.stage xs ≡ xs }
         ensures kept { (xs : List Interval) → IsNormal (span ∷ xs) → HasKept self.old (span ∷ xs) → HasKept self.new xs }
+        ensures again { (xs : List Interval) → IsNormal (span ∷ xs) → HasKept self.old (span ∷ xs)
+            → CanBeginAgain self.new xs }
+        ensures ended { IsLapEnded self.old → IsLapEnded self.new }
+        ensures told { (self.new.stage ≡ GivenUp) ⊎ (self.new.told.items ≡ self.old.told.items ++ span ∷ []) }
+        ensures given_up { self.old.stage ≡ GivenUp → self.new.stage ≡ GivenUp }
+        ensures room { self.new.room ≡ self.old.room }
     {
         match self.stage {
             Stage::Repeating(_) => {}
@@ -198,16 +292,45 @@ impl Repeat {
         requires learning { self.old.stage ≡ Learning }
         ensures all { (xs : List Interval) → IsNormal (span ∷ xs) → to_come self.new.stage xs ≡ xs }
         ensures kept { (xs : List Interval) → IsNormal (span ∷ xs) → HasKept self.old (span ∷ xs) → HasKept self.new xs }
+        ensures again { (xs : List Interval) → IsNormal (span ∷ xs) → HasKept self.old (span ∷ xs)
+            → CanBeginAgain self.new xs }
+        ensures ended { IsLapEnded self.new }
+        ensures told { (self.new.stage ≡ GivenUp) ⊎ (self.new.told.items ≡ self.old.told.items ++ span ∷ []) }
+        ensures room { self.new.room ≡ self.old.room }
     {
         let Some(first) = self.first() else {
             self.begin(span);
             return;
         };
         if self.is_period_after(first, span) {
-            self.put_last(span);
+            self.close(span);
         } else {
             self.append(span);
         }
+    }
+
+    // The span closes the period: all of it are kept.
+    fn close(&mut self, span: Span)
+        requires learning { self.old.stage ≡ Learning }
+        requires some { 0 < length (kept_list self.old) }
+        ensures kept { IsRepeating self.new.stage → kept_list self.new ≡ drop 1 (kept_list self.old) ++ span ∷ [] }
+        ensures last { IsRepeating self.new.stage → last_told self.new ≡ drop 1 (kept_list self.old) ++ span ∷ [] }
+        ensures stage { (self.new.stage ≡ GivenUp) ⊎ (self.new.stage ≡ Repeating (record { 0 = span.until })) }
+        ensures learnt { IsRepeating self.new.stage → self.new.learnt ≡ record { 0 = span.until } }
+        ensures period { self.new.period ≡ self.old.period }
+        ensures horizon { self.new.horizon ≡ self.old.horizon }
+        ensures ended { IsLapEnded self.new }
+        ensures told { (self.new.stage ≡ GivenUp) ⊎ (self.new.told.items ≡ self.old.told.items ++ span ∷ []) }
+        ensures room { self.new.room ≡ self.old.room }
+    {
+        if self.told.len() > self.room + 1 || self.told.push(span).is_err() {
+            self.give_up();
+            return;
+        }
+        self.lap = self.told.len();
+        self.learnt = span.until();
+        self.stage = Stage::Repeating(span.until());
+        self.put_last(span);
     }
 
     // The first span of a horizon may have been cut by its beginning. Then it is not kept, since it would not come again.
@@ -216,33 +339,84 @@ impl Repeat {
         requires none { kept_list self.old ≡ [] }
         ensures all { (xs : List Interval) → to_come self.new.stage xs ≡ xs }
         ensures kept { (xs : List Interval) → HasKept self.old (span ∷ xs) → HasKept self.new xs }
+        ensures again { IsRepeating self.new.stage → ⊥ }
+        ensures ended { IsLapEnded self.new }
+        ensures told { (self.new.stage ≡ GivenUp) ⊎ (self.new.told.items ≡ self.old.told.items ++ span ∷ []) }
+        ensures room { self.new.room ≡ self.old.room }
     {
         if span.from().0 > self.horizon.from().0 {
             self.append(span);
+            return;
         }
-    }
-
-    // The spans of a period are too many to be kept.
-    fn give_up(&mut self)
-        ensures stage { self.new.stage ≡ GivenUp }
-    {
-        self.kept.clear();
+        if self.told.len() <= self.room && push_one(&mut self.told, span) {
+            self.lap = self.told.len();
+            return;
+        }
+        clear_both(&mut self.kept, &mut self.told);
+        self.lap = 0;
         self.place = 0;
         self.stage = Stage::GivenUp;
     }
 
-    // Puts a span behind the kept ones, if there is room.
+    /// Keeps no span, now and later.
+    pub fn give_up(&mut self)
+        ensures stage { self.new.stage ≡ GivenUp }
+        ensures ended { IsLapEnded self.new }
+        ensures room { self.new.room ≡ self.old.room }
+        ensures period { self.new.period ≡ self.old.period }
+        ensures horizon { self.new.horizon ≡ self.old.horizon }
+    {
+        clear_both(&mut self.kept, &mut self.told);
+        self.lap = 0;
+        self.place = 0;
+        self.stage = Stage::GivenUp;
+    }
+
+    // Puts a span after the kept ones, if there is room.
     fn append(&mut self, span: Span)
         requires learning { self.old.stage ≡ Learning }
         ensures all { (xs : List Interval) → to_come self.new.stage xs ≡ xs }
         ensures kept { (xs : List Interval) → HasKept self.old (span ∷ xs) → HasKept self.new xs }
+        ensures again { IsRepeating self.new.stage → ⊥ }
+        ensures ended { IsLapEnded self.new }
+        ensures told { (self.new.stage ≡ GivenUp) ⊎ (self.new.told.items ≡ self.old.told.items ++ span ∷ []) }
+        ensures room { self.new.room ≡ self.old.room }
     {
-        if self.kept.len() >= MOST_KEPT || self.kept.len() == self.kept.capacity() {
+        if self.kept.len() >= self.room || self.told.len() > self.room {
             self.give_up();
             return;
         }
-        if self.kept.push(span).is_err() {
-            self.give_up();
+        if push_both(&mut self.kept, &mut self.told, span) {
+            self.lap = self.told.len();
+            return;
         }
+        clear_both(&mut self.kept, &mut self.told);
+        self.lap = 0;
+        self.place = 0;
+        self.stage = Stage::GivenUp;
     }
+}
+
+// Appends a span to two lists. If memory is refused, we do not say what they hold.
+fn push_both(one: &mut Vec<Span>, other: &mut Vec<Span>, span: Span) -> bool
+    ensures one { IsTrue result → one.new.items ≡ one.old.items ++ span ∷ [] }
+    ensures other { IsTrue result → other.new.items ≡ other.old.items ++ span ∷ [] }
+{
+    one.push(span).is_ok() && other.push(span).is_ok()
+}
+
+// Appends a span to a list. If memory is refused, we do not say what it holds.
+fn push_one(list: &mut Vec<Span>, span: Span) -> bool
+    ensures list { IsTrue result → list.new.items ≡ list.old.items ++ span ∷ [] }
+{
+    list.push(span).is_ok()
+}
+
+// Takes all spans off two lists.
+fn clear_both(kept: &mut Vec<Span>, told: &mut Vec<Span>)
+    ensures kept { kept.new.items ≡ [] }
+    ensures told { told.new.items ≡ [] }
+{
+    kept.clear();
+    told.clear();
 }

@@ -3,7 +3,7 @@ use Rattle.std.specs.Prelude.{ℕ, ℤ, List, length, ◌+◌, ◌+ℤ◌, ◌�
 use Rattle.gtd_core.specs.Seconds.{Within}
 use Rattle.gtd_core.specs.Whole.{whole}
 use Rattle.gtd_core.specs.declared.horizon.Horizon.{Horizon}
-use Rattle.gtd_eval.specs.Cursors.{SomeHolds, total_nodes}
+use Rattle.gtd_eval.specs.Cursors.{AllAtStart, SomeHolds, total_nodes}
 use Rattle.gtd_eval.specs.Periods.{Period, period_seconds}
 use Rattle.gtd_eval.specs.declared.leaf.Leaf.{Ghosts}
 use Rattle.gtd_eval.specs.declared.tree.SweepTree.{SweepTree}
@@ -18,6 +18,10 @@ abbrev pub nodes_with_cursors : ClosingCursors → ℕ
 nodes_with_cursors cursors =
     (total_nodes cursors.repeating.items + length cursors.repeating.items)
     + (total_nodes cursors.others.items + length cursors.others.items)
+
+-- each of them still has its whole list to hand out
+abbrev pub AreAtStart : ClosingCursors → Type 0
+AreAtStart cursors = AllAtStart cursors.repeating.items × AllAtStart cursors.others.items
 
 -- Together they have a second of the horizon exactly if they have the one a period later, where that is in the horizon too,
 -- whichever period is taken from this one on.

@@ -4,7 +4,8 @@ ghost use Rattle.std.specs.Prelude.{◌≡◌, ◌≤◌, ◌<◌, ◌+◌, ◌�
 ghost use Rattle.gtd_core.specs.Limits.{most_nodes};
 ghost use Rattle.gtd_core.specs.Seconds.{Within};
 ghost use Rattle.gtd_core.specs.Whole.{whole};
-ghost use Rattle.gtd_eval.specs.Cursors.{SomeHolds, cursor_list, cursor_nodes, total_nodes};
+ghost use Rattle.gtd_eval.specs.Cursors.{AllAtStart, IsAtStart, SomeHolds};
+ghost use Rattle.gtd_eval.specs.Cursors.{cursor_list, cursor_nodes, total_nodes};
 ghost use Rattle.gtd_records.specs.ClosingCursors.{RepeatIn};
 ghost use Rattle.gtd_spans.specs.Normal.{Holds, IsNormal};
 
@@ -39,6 +40,7 @@ fn gaps_of(
         ↔ (Within (whole horizon) t × (SomeHolds repeating.items t → ⊥))) }
     ensures normal { IfOk result (λ c. IsNormal (cursor_list c)) }
     ensures nodes { IfOk result (λ c. cursor_nodes c ≡ total_nodes repeating.items + vec_len repeating) }
+    ensures start { AllAtStart repeating.items → IfOk result IsAtStart }
 {
     let closed = Cursor::any(alloc, repeating, horizon)?;
     let gaps = Cursor::outside(alloc, closed, horizon)?;
@@ -50,9 +52,9 @@ impl ClosingCursors {
     ghost use Rattle.gtd_core.specs.Limits.{most_nodes};
     ghost use Rattle.gtd_core.specs.Seconds.{Within};
     ghost use Rattle.gtd_core.specs.Whole.{whole};
-    ghost use Rattle.gtd_eval.specs.Cursors.{cursor_list};
+    ghost use Rattle.gtd_eval.specs.Cursors.{cursor_list, IsAtStart};
     ghost use Rattle.gtd_records.specs.Closing.{HoldsAt};
-    ghost use Rattle.gtd_records.specs.ClosingCursors.{HasSecond, RepeatIn, nodes_with_cursors};
+    ghost use Rattle.gtd_records.specs.ClosingCursors.{AreAtStart, HasSecond, RepeatIn, nodes_with_cursors};
     ghost use Rattle.gtd_spans.specs.Normal.{Holds, IsNormal};
 
     // No cursors.
@@ -60,6 +62,7 @@ impl ClosingCursors {
         ensures nodes { nodes_with_cursors result ≡ 0 }
         ensures seconds { (t : ℤ) → HasSecond result t → ⊥ }
         ensures repeats { (horizon : Horizon) → RepeatIn horizon result.period result.repeating.items }
+        ensures start { AreAtStart result }
     {
         ClosingCursors {
             repeating: Vec::new(alloc),
@@ -80,6 +83,7 @@ impl ClosingCursors {
             ↔ (HasSecond self.old t ⊎ (Within (whole horizon) t × HoldsAt record.now.domain t))) }
         ensures repeats { OnOk result (RepeatIn horizon self.old.period self.old.repeating.items
             → RepeatIn horizon self.new.period self.new.repeating.items) }
+        ensures start { OnOk result (AreAtStart self.old → AreAtStart self.new) }
     {
         let Some(period) = record.period() else {
             let cursor = record.cursor(alloc, horizon)?;
@@ -99,6 +103,7 @@ impl ClosingCursors {
         ensures seconds { IfOk result (λ c. (t : ℤ) → Holds (cursor_list c) t
             ↔ (Within (whole horizon) t × (HasSecond self t → ⊥))) }
         ensures normal { IfOk result (λ c. IsNormal (cursor_list c)) }
+        ensures start { AreAtStart self → IfOk result IsAtStart }
     {
         let ClosingCursors {
             repeating,

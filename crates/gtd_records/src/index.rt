@@ -8,7 +8,7 @@ ghost use Rattle.gtd_eval.specs.Periods.{RepeatsFrom};
 ghost use Rattle.gtd_eval.specs.Stays.{IsStay};
 ghost use Rattle.gtd_records.specs.ClosedWhen.{IsClosedWhen};
 ghost use Rattle.gtd_records.specs.Closing.{AreElements, ClosesOneWay, Concerns, IsClosed};
-ghost use Rattle.gtd_records.specs.ClosingCursors.{HasSecond, RepeatIn, nodes_with_cursors};
+ghost use Rattle.gtd_records.specs.ClosingCursors.{AreAtStart, HasSecond, RepeatIn, nodes_with_cursors};
 ghost use Rattle.gtd_records.specs.ClosingRows.{AreClosingRows};
 ghost use Rattle.gtd_records.specs.Index.{AreClosing, AreElementPlaces, ArePlaces, ArePlacesWithin, IsRepeated};
 ghost use Rattle.gtd_records.specs.Columns.{IsSortedSet};
@@ -294,6 +294,7 @@ impl Records {
         ensures nodes { IfOk result (λ c. nodes_with_cursors c ≤ most_nodes) }
         ensures seconds { IfOk result (λ c. AreClosing self.now element direction vehicle horizon (HasSecond c)) }
         ensures repeats { IfOk result (λ c. RepeatIn horizon c.period c.repeating.items) }
+        ensures start { IfOk result AreAtStart }
     {
         let places = self.places_of_element(element);
         let mut cursors = ClosingCursors::none(alloc);

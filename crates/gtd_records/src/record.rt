@@ -4,7 +4,7 @@ ghost use Rattle.std.specs.Prelude.{◌≡◌, ◌↔◌, ◌≤◌, ℤ, IfOk, 
 ghost use Rattle.gtd_core.specs.Parts.{domain_tree};
 ghost use Rattle.gtd_core.specs.Seconds.{Within, IsHorizonSecond};
 ghost use Rattle.gtd_core.specs.Whole.{whole};
-ghost use Rattle.gtd_eval.specs.Cursors.{cursor_list, cursor_nodes};
+ghost use Rattle.gtd_eval.specs.Cursors.{cursor_list, cursor_nodes, IsAtStart};
 ghost use Rattle.gtd_records.specs.Closing.{Closes, ClosesOneWay, Concerns, HoldsAt};
 ghost use Rattle.gtd_eval.specs.Periods.{RepeatsFrom};
 ghost use Rattle.gtd_eval.specs.Stays.{IsStay};
@@ -162,6 +162,7 @@ impl Record {
         ensures seconds { IfOk result (λ c. (t : ℤ) → Holds (cursor_list c) t
             ↔ (Within (whole horizon) t × HoldsAt self.now.domain t)) }
         ensures nodes { IfOk result (λ c. cursor_nodes c ≤ 255) }
+        ensures start { IfOk result IsAtStart }
     {
         match self.domain() {
             Some(domain) => SweepTree::<L>::open(alloc, domain, horizon),

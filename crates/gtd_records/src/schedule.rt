@@ -1,7 +1,7 @@
 //! The seconds in which an element is open.
 
 ghost use Rattle.std.specs.Prelude.{IfOk};
-ghost use Rattle.gtd_eval.specs.Cursors.{cursor_list};
+ghost use Rattle.gtd_eval.specs.Cursors.{cursor_list, IsAtStart};
 ghost use Rattle.gtd_eval.specs.Membership.{IsNormalOver};
 ghost use Rattle.gtd_records.specs.Closing.{IsOpen};
 
@@ -28,6 +28,7 @@ pub fn open_seconds(
 ) -> Result<KeptCursor, AllocError>
     ensures seconds { IfOk result
         (λ c. IsNormalOver (IsOpen records.now element direction vehicle) horizon (cursor_list c)) }
+    ensures start { IfOk result IsAtStart }
 {
     match records.closed_when(element, direction, vehicle) {
         ClosedWhen::Never => Ok(KeptCursor::whole(horizon)),

@@ -24,3 +24,9 @@ runs_to_come r =
 -- the days that were looked at, and the starts that were taken
 abbrev pub runs_ticks : Runs → ℕ
 runs_ticks r = walk_ticks r.walk
+
+-- all spans that were to be handed out before the first was, as a normal list
+abbrev pub runs_whole : Runs → List Interval
+runs_whole r =
+    runs_between (duration_parts r.begun.basic.duration) (starts_ahead r.first (walk_to_come r.begun))
+    (whole r.begun.horizon).from (whole r.begun.horizon).until

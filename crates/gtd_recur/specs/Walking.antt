@@ -6,10 +6,11 @@ use Rattle.gtd_core.specs.Parts.{start_parts}
 use Rattle.gtd_core.specs.Whole.{to_day}
 use Rattle.gtd_core.specs.Seconds.{day_of_second}
 use Rattle.gtd_recur.specs.declared.walk.Walk.{Walk}
-use Rattle.gtd_recur.specs.Ascending.{AllBefore}
+use Rattle.gtd_recur.specs.Ascending.{AllBefore, IsAscending}
 use Rattle.gtd_recur.specs.Begins.{begins_at}
 use Rattle.gtd_recur.specs.Starts.{starts_left}
 use Rattle.gtd_recur.specs.Stepping.{Stepped}
+use Rattle.gtd_recur.specs.Stretches.{IsAheadIn, starts_ahead}
 use Rattle.gtd_recur.specs.Work.{days_between, starts_of, least_work}
 
 -- the days that are walked over
@@ -44,6 +45,16 @@ abbrev pub IsCountedTo : Walk → Option Sec → Type 0
 IsCountedTo w None = Unit {0}
 IsCountedTo w (Some b) =
     AllBefore (b.0 +ℤ pos 1) (walk_given w) × (least_work (start_parts w.basic.start) (walk_days w) b.0 ≤ walk_ticks w)
+
+-- An earlier walk over the same days and starts, with the start that was taken ahead then, from which both may begin again: it
+-- had counted no more.
+pub record IsStartOf (w : Walk) (first : Option Sec) (begun : Walk) : Type 0 where
+  pub basic : begun.basic ≡ w.basic
+  pub horizon : begun.horizon ≡ w.horizon
+  pub ascending : IsAscending (starts_ahead first (walk_to_come begun))
+  pub ahead_in : IsAheadIn first
+  pub counted : IsCountedTo begun first
+  pub fewer : walk_ticks begun ≤ walk_ticks w
 
 -- the start is on the open day, and the later starts of that day are left
 pub record IsOpenBehind (w : Walk) (b : ℤ) : Type 0 where

@@ -10,8 +10,8 @@ ghost use Rattle.gtd_recur.specs.facts.AscendingProps.{IsAscending-prop};
 ghost use Rattle.gtd_recur.specs.Stretches.{IsAheadIn, IsCut, IsEarlier, IsLater, IsRun, starts_ahead};
 ghost use Rattle.gtd_recur.specs.facts.StretchFacts.{IsAheadIn-prop};
 ghost use Rattle.gtd_recur.specs.Walking.{walk_days, walk_all, walk_to_come, walk_ticks, walk_given, IsSameWindow};
-ghost use Rattle.gtd_recur.specs.Walking.{IsCountedTo};
-ghost use Rattle.gtd_recur.specs.facts.WalkProps.{IsCountedTo-prop};
+ghost use Rattle.gtd_recur.specs.Walking.{IsCountedTo, IsStartOf};
+ghost use Rattle.gtd_recur.specs.facts.WalkProps.{IsCountedTo-prop, IsStartOf-prop};
 ghost use Rattle.gtd_recur.specs.Work.{work};
 
 use crate::walk::Walk;
@@ -27,6 +27,10 @@ pub struct Runs {
     ahead: Option<Sec>,
     /// The walk over the starts that follow. It looked back no further than it had to.
     pub(crate) walk: Walk,
+    /// Both as they were before the first run was handed out.
+    first: Option<Sec>,
+    begun: Walk,
+    ghost start: { IsStartOf walk first begun } by { IsStartOf-prop walk first begun },
     ghost ascending: { IsAscending (starts_ahead ahead (walk_to_come walk)) } by { IsAscending-prop _ },
     ghost ahead_in: { IsAheadIn ahead } by { IsAheadIn-prop _ },
     ghost counted: { IsCountedTo walk ahead } by { IsCountedTo-prop walk ahead },
@@ -92,7 +96,7 @@ impl Runs {
     ghost use Rattle.gtd_spans.specs.Sweeping.{Takes};
     ghost use Rattle.gtd_recur.specs.Ascending.{Has};
     ghost use Rattle.gtd_recur.specs.Membership.{InBasic};
-    ghost use Rattle.gtd_recur.specs.RunsToCome.{runs_basic, runs_horizon, runs_to_come, runs_ticks};
+    ghost use Rattle.gtd_recur.specs.RunsToCome.{runs_basic, runs_horizon, runs_to_come, runs_ticks, runs_whole};
     ghost use Rattle.gtd_recur.specs.Work.{starts_in, work_up_to, work_of, least_of_horizon};
 
     /// The runs of a basic domain in a horizon.
@@ -100,10 +104,28 @@ impl Runs {
         ensures normal { IsNormalFor (InBasic basic) (whole horizon).from (whole horizon).until (runs_to_come result) }
         ensures basic { runs_basic result ≡ basic }
         ensures horizon { runs_horizon result ≡ horizon }
+        ensures whole { runs_to_come result ≡ runs_whole result }
     {
         let mut walk = Walk::from_last(basic, horizon);
         let ahead = walk.next();
-        Runs { ahead, walk }
+        Runs {
+            ahead,
+            walk,
+            first: ahead,
+            begun: walk,
+        }
+    }
+
+    /// Begins again with the first run. The ticks are counted anew from then on.
+    pub fn begin_again(&mut self)
+        ensures list { runs_to_come self.new ≡ runs_whole self.old }
+        ensures whole { runs_whole self.new ≡ runs_whole self.old }
+        ensures basic { runs_basic self.new ≡ runs_basic self.old }
+        ensures horizon { runs_horizon self.new ≡ runs_horizon self.old }
+        ensures ticks { runs_ticks self.new ≤ runs_ticks self.old }
+    {
+        self.walk = self.begun;
+        self.ahead = self.first;
     }
 
     /// One for each day that was looked at, also before the horizon, and one for each start that was taken. No day is
@@ -120,6 +142,7 @@ impl Runs {
         ensures takes { Takes (runs_to_come self.old) result (runs_to_come self.new) }
         ensures basic { runs_basic self.new ≡ runs_basic self.old }
         ensures horizon { runs_horizon self.new ≡ runs_horizon self.old }
+        ensures whole { runs_whole self.new ≡ runs_whole self.old }
         ensures at_most { IfSome result (λ x. (b : ℤ)
             → Has (starts_in (runs_basic self.old) (runs_horizon self.old)) b → x.until <ℤ b
             → runs_ticks self.new ≤ work_up_to (runs_basic self.old) (runs_horizon self.old) b) }
@@ -149,7 +172,7 @@ impl SpanSource for Runs {
     ghost use Rattle.gtd_recur.specs.Stretches.{runs_between, starts_ahead};
     ghost use Rattle.gtd_recur.specs.facts.StretchFacts.{runs_between-normal};
     ghost use Rattle.gtd_recur.specs.StartsToCome.{starts_to_come};
-    ghost use Rattle.gtd_recur.specs.RunsToCome.{runs_basic, runs_horizon, runs_to_come, runs_ticks};
+    ghost use Rattle.gtd_recur.specs.RunsToCome.{runs_basic, runs_horizon, runs_to_come, runs_ticks, runs_whole};
     ghost use Rattle.gtd_recur.specs.Work.{starts_in, work_up_to, least_of_horizon};
 
     ghost rest = { λ r. runs_to_come r };
@@ -158,6 +181,7 @@ impl SpanSource for Runs {
         ensures takes { Takes (runs_to_come self.old) result (runs_to_come self.new) }
         ensures basic { runs_basic self.new ≡ runs_basic self.old }
         ensures horizon { runs_horizon self.new ≡ runs_horizon self.old }
+        ensures whole { runs_whole self.new ≡ runs_whole self.old }
         ensures at_most { IfSome result (λ x. (b : ℤ)
             → Has (starts_in (runs_basic self.old) (runs_horizon self.old)) b → x.until <ℤ b
             → runs_ticks self.new ≤ work_up_to (runs_basic self.old) (runs_horizon self.old) b) }

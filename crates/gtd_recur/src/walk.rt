@@ -21,7 +21,7 @@ use gtd_core::limits::DAY_SECONDS;
 use gtd_core::{Basic, Horizon, Sec};
 
 /// A walk over the starts of a basic domain on the days from a first one to the last of the horizon.
-#[derive(Debug, Drop)]
+#[derive(Clone, Copy, Debug)]
 pub(crate) struct Walk {
     pub(crate) basic: Basic,
     pub(crate) horizon: Horizon,

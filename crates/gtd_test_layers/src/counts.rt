@@ -52,6 +52,27 @@ fn kept_spans(rt: HostRuntime) {
     }
 }
 
+// A cursor that begins again, before and after the spans of a period are known, hands out the same list.
+#[test]
+fn begun_again(rt: HostRuntime) {
+    let alloc = rt.alloc();
+    let weeks = horizon(&rt, NEW_YEAR + 2, NEW_YEAR + 30);
+    for &(text, kept) in &KEPT {
+        let domain = domain(&rt, alloc, text);
+        let mut cursor = KeptCursor::open(alloc, &domain, weeks).expect(&rt, "memory");
+        let whole = SpanList::collect(alloc, &mut cursor).expect(&rt, "memory");
+        cursor.begin_again();
+        assert!(rt; cursor.kept() <= kept, "{text}");
+        let again = SpanList::collect(alloc, &mut cursor).expect(&rt, "memory");
+        assert!(rt; again.spans() == whole.spans(), "{text}");
+        let mut other = KeptCursor::open(alloc, &domain, weeks).expect(&rt, "memory");
+        let _ = other.next();
+        other.begin_again();
+        let anew = SpanList::collect(alloc, &mut other).expect(&rt, "memory");
+        assert!(rt; anew.spans() == whole.spans(), "{text}");
+    }
+}
+
 // A list of two spans, of which at most two and then at most one are asked for.
 #[test]
 fn lists_of_at_most(rt: HostRuntime) {

@@ -2,14 +2,18 @@
 use Rattle.std.proofs.Common.{◌≡◌, ◌⊎◌, ◌↔◌, ℕ, ◌+◌, ◌*◌, ◌≤◌, List, [], ◌∷◌, ◌++◌, inl, inr, arith}
 use Rattle.std.specs.Prelude.{ℤ}
 use Rattle.gtd_spans.specs.Normal.{IsNormal}
-use Rattle.gtd_eval.specs.Cursors.{cursor_list, cursor_nodes, cursor_work, SomeHolds, total_nodes, total_work, NoneHigher}
-use Rattle.gtd_eval.specs.facts.NodeFacts.{node_list-normal, node_work-le, node_count-some}
+use Rattle.gtd_eval.specs.Cursors.{cursor_list, cursor_whole, cursor_nodes, cursor_work}
+use Rattle.gtd_eval.specs.Cursors.{SomeHolds, AllAtStart, total_nodes, total_work, NoneHigher}
+use Rattle.gtd_eval.specs.facts.NodeFacts.{node_list-normal, node_whole-normal, node_work-le, node_count-some}
 use Rattle.gtd_eval.specs.declared.leaf.Leaf.{Ghosts}
 use Rattle.gtd_eval.specs.declared.tree.SweepTree.{SweepTree}
 
 module _ {L : Type 0} {g : Ghosts L} where
   pub cursor-normal : ((l : L) → IsNormal (g.leaf_list l)) → (c : SweepTree L g) → IsNormal (cursor_list c)
   cursor-normal k c = node_list-normal g k c.node c.sound
+
+  pub whole-normal : ((l : L) → IsNormal (g.leaf_whole l)) → (c : SweepTree L g) → IsNormal (cursor_whole c)
+  whole-normal k c = node_whole-normal g k c.node c.sound
 
   pub cursor-small : ((l : L) → (g.leaf_size l).work ≤ 20000000000 * (g.leaf_size l).nodes) → (c : SweepTree L g)
       → cursor_work c ≤ 20000000000 * cursor_nodes c
@@ -36,3 +40,7 @@ module _ {L : Type 0} {g : Ghosts L} where
   pub higher-append : (h : ℕ) (ls rs : List (SweepTree L g)) → NoneHigher h (ls ++ rs) → NoneHigher h ls × NoneHigher h rs
   higher-append h [] rs n = (tt, n)
   higher-append h (a ∷ ls) rs n = let i = higher-append h ls rs n.1 in ((n.0, i.0), i.1)
+
+  pub start-append : (ls rs : List (SweepTree L g)) → AllAtStart ls → AllAtStart rs → AllAtStart (ls ++ rs)
+  start-append [] rs l r = r
+  start-append (a ∷ ls) rs l r = (l.0, start-append ls rs l.1 r)

@@ -1,4 +1,4 @@
--- The stays of two sides at one second make that of what the operator joins of them.
+-- A basic domain is asked in its own horizon; the stays of two sides at one second make that of what the operator joins of them.
 use Rattle.std.specs.Prelude.{ℤ}
 use Rattle.gtd_eval.specs.Asked.{asked_tree}
 use Rattle.gtd_eval.specs.Membership.{InTree}
@@ -17,3 +17,8 @@ returns-in-Join-clause-stays t c =
     rw (← c.deref_mut.ensures.value) c.stay_at-second.ensures.stays in
     rw c.in-Join.is (joined_stays c.in-Join.op (InTree (asked_tree both.0)) (InTree (asked_tree both.1)) at end
     c.stay_at-first.result c.stay_at-second.result c.joined.result l r c.joined.ensures.joined)
+
+pub returns-in-Basic-clause-stays : goal.returns-in-Basic-clause-stays
+returns-in-Basic-clause-stays t c =
+    let until = rw c.in-Basic.is at c.requires.end in
+    rw (c.in-Basic.is, ← until) c.stay.ensures.stays

@@ -16,6 +16,7 @@ next_of_one-loop-inner-preserved g t c =
       fits = told.0;
       same = old.same ∙ kept.1 ∙ told.1;
       shape = c.next-told.ensures.shape ∙ old.shape;
+      whole = c.next-told.ensures.whole ∙ old.whole;
     }
 
 pub next_of_two-loop-left-preserved-in-Left : goal.next_of_two-loop-left-preserved-in-Left
@@ -33,6 +34,8 @@ next_of_two-loop-left-preserved-in-Left g t c =
       same = old.same ∙ kept.1 ∙ told.1;
       left_shape = c.next.ensures.shape ∙ old.left_shape;
       right_shape = old.right_shape;
+      left_whole = c.next.ensures.whole ∙ old.left_whole;
+      right_whole = old.right_whole;
     }
 
 pub next_of_two-loop-left-preserved : goal.next_of_two-loop-left-preserved
@@ -49,6 +52,8 @@ next_of_two-loop-left-preserved g t c =
       same = old.same ∙ kept.1 ∙ told.1;
       left_shape = old.left_shape;
       right_shape = c.next-in-Right.ensures.shape ∙ old.right_shape;
+      left_whole = old.left_whole;
+      right_whole = c.next-in-Right.ensures.whole ∙ old.right_whole;
     }
 
 pub next_of_two-loop-left-preserved-in_default : goal.next_of_two-loop-left-preserved-in_default
@@ -65,4 +70,6 @@ next_of_two-loop-left-preserved-in_default g t c =
       same = old.same ∙ kept.1 ∙ told.1;
       left_shape = c.next.ensures.shape ∙ old.left_shape;
       right_shape = old.right_shape;
+      left_whole = c.next.ensures.whole ∙ old.left_whole;
+      right_whole = old.right_whole;
     }

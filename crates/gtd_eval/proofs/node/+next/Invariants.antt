@@ -2,7 +2,7 @@
 -- sides hold fewer spans or have ended.
 use Rattle.std.proofs.Common.{◌≡◌, ◌+◌, ◌*◌, length, []}
 use Rattle.gtd_spans.specs.Sweeping.{Fits, HasOneSide, still, unended_sides}
-use Rattle.gtd_eval.specs.Nodes.{node_list, node_shape, node_parts, IsSoundNode}
+use Rattle.gtd_eval.specs.Nodes.{node_list, node_whole, node_shape, node_parts, IsSoundNode}
 use Rattle.gtd_eval.proofs.node.+next.Given as goal
 
 abbrev pub decreases-Node::next : goal.decreases-Node::next
@@ -21,6 +21,7 @@ invariant-next_of_one-loop-inner g l = record {
   fits : Fits l.sweep (node_list g.L.Leaf l.inner) [];
   same : still l.initial.sweep (node_list g.L.Leaf l.initial.inner) [] ≡ still l.sweep (node_list g.L.Leaf l.inner) [];
   shape : node_shape g.L.Leaf l.inner ≡ node_shape g.L.Leaf l.initial.inner;
+  whole : node_whole g.L.Leaf l.inner ≡ node_whole g.L.Leaf l.initial.inner;
 }
 
 abbrev pub decreases-next_of_one-loop-inner : goal.decreases-next_of_one-loop-inner
@@ -35,6 +36,8 @@ invariant-next_of_two-loop-left g l = record {
       ≡ still l.sweep (node_list g.L.Leaf l.left) (node_list g.L.Leaf l.right);
   left_shape : node_shape g.L.Leaf l.left ≡ node_shape g.L.Leaf l.initial.left;
   right_shape : node_shape g.L.Leaf l.right ≡ node_shape g.L.Leaf l.initial.right;
+  left_whole : node_whole g.L.Leaf l.left ≡ node_whole g.L.Leaf l.initial.left;
+  right_whole : node_whole g.L.Leaf l.right ≡ node_whole g.L.Leaf l.initial.right;
 }
 
 abbrev pub decreases-next_of_two-loop-left : goal.decreases-next_of_two-loop-left

@@ -10,6 +10,7 @@ pub returns-in-Never : goal.returns-in-Never
 returns-in-Never c = record {
   seconds = never_closed c.args.records.now c.args.element c.args.direction c.args.vehicle c.args.horizon
       (cursor_list c.whole.result) c.in-Never.ensures.when c.whole.ensures.list;
+  start = c.whole.ensures.start;
 }
 
 pub returns-in-Always : goal.returns-in-Always
@@ -18,6 +19,7 @@ returns-in-Always c = record {
       (λ r seconds normal. always_closed c.args.records.now c.args.element c.args.direction c.args.vehicle c.args.horizon
       (cursor_list r) c.in-Always.ensures.when (λ t h. none_hold c.new.result.items t c.new.ensures.items ((seconds t).0 h))
       normal);
+  start = c.any.ensures.start (rw c.new.ensures.items tt);
 }
 
 pub returns-in_ok-closing-in-ByDomains : goal.returns-in_ok-closing-in-ByDomains
@@ -26,4 +28,5 @@ returns-in_ok-closing-in-ByDomains c = record {
       (λ r seconds normal. open_normal c.args.records.now c.args.element c.args.direction c.args.vehicle c.args.horizon
       (HasSecond c.in_ok-closing-in-ByDomains.closing) (cursor_list r) c.in_ok-closing-in-ByDomains.ensures.seconds seconds
       normal);
+  start = c.outside.ensures.start c.in_ok-closing-in-ByDomains.ensures.start;
 }

@@ -6,7 +6,7 @@ use Rattle.gtd_eval.specs.Exprs.{right_of}
 use Rattle.gtd_eval.specs.facts.NodeFacts.{node_list-normal}
 use Rattle.gtd_eval.specs.declared.node.Node.{Node}
 use Rattle.gtd_eval.specs.declared.tree.SweepTree.{SweepTree}
-use Rattle.gtd_eval.proofs.Unions.{two-seconds, two-nodes, two-work, two-height}
+use Rattle.gtd_eval.proofs.Unions.{two-seconds, two-nodes, two-work, two-height, two-start}
 use Rattle.gtd_eval.proofs.tree.SweepTree.+joining.Goals as goal
 
 pub join_halves-returns : goal.join_halves-returns
@@ -35,6 +35,7 @@ join_halves-returns g t c =
           nodes = two-nodes op to ls rs _ _ u v;
           work = two-work op to ls rs _ _ u v;
           height = two-height op to c.args.count ls rs _ _ gt b.many a.many u v;
+          start = two-start op to ls rs _ _ _ (c.new-2.ensures.meaning _ _) u v;
         };
       };
     }

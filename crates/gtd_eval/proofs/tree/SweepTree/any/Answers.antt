@@ -2,9 +2,9 @@
 use Rattle.std.proofs.Common.{◌≡◌, ◌≤◌, ◌^◌, ◌+◌, ℕ, List, length, subst, arith}
 use Rattle.std.specs.Prelude.{vec_len}
 use Rattle.gtd_core.specs.declared.domain.Op.TheVariants.{Union}
-use Rattle.gtd_eval.specs.Chains.{IsChainOf}
-use Rattle.gtd_eval.specs.Cursors.{NoneHigher}
-use Rattle.gtd_eval.specs.Nodes.{node_height}
+use Rattle.gtd_eval.specs.Chains.{IsChainOf, IsChainOfLast}
+use Rattle.gtd_eval.specs.Cursors.{AllAtStart, NoneHigher}
+use Rattle.gtd_eval.specs.Nodes.{node_list, node_whole, node_height}
 use Rattle.gtd_eval.specs.facts.NodeFacts.{node_list-normal}
 use Rattle.gtd_eval.specs.declared.leaf.Leaf.{Ghosts}
 use Rattle.gtd_eval.specs.declared.tree.SweepTree.{SweepTree}
@@ -29,3 +29,15 @@ returns-clause-height g c =
 pub returns-clause-normal : goal.returns-clause-normal
 returns-clause-normal g c =
     node_list-normal g.L.Leaf g.met.L.Leaf.is_normal c.in_ok-node.node c.in_ok-node.ensures.chain.chain.sound
+
+-- all cursors still have their whole lists to hand out, and so has their union
+start-of : {L : Type 0} {g : Ghosts L} (cs after : List (SweepTree L g)) (n : Node L) (count : ℕ) → count ≡ length cs
+    → IsChainOfLast Union count cs n after → AllAtStart cs → node_list g n ≡ node_whole g n
+start-of cs after n count many e all =
+    let same : e.taken ≡ cs = all-taken _ _ _ e.split (omega (arith, e.many, many)) in
+    e.chain.start (rw same all)
+
+pub returns-clause-start : goal.returns-clause-start
+returns-clause-start g c = λ all.
+    start-of c.args.cursors.items _ c.in_ok-node.node c.len-count.result (omega (arith, c.len-count.ensures))
+    c.in_ok-node.ensures.chain all

@@ -9,7 +9,7 @@ use Rattle.gtd_eval.specs.Exprs.{expr_work}
 use Rattle.gtd_eval.specs.Membership.{InTree}
 use Rattle.gtd_eval.specs.declared.tree.SweepTree.{SweepTree}
 use Rattle.gtd_eval.specs.facts.NodeFacts.{node_list-normal}
-use Rattle.gtd_eval.proofs.Unions.{chain-of-terms, chain-in, chain-nodes, union-low, count-of-terms}
+use Rattle.gtd_eval.proofs.Unions.{chain-of-terms, chain-in, chain-nodes, union-low, count-of-terms, terms-start}
 use Rattle.gtd_eval.proofs.tree.SweepTree.balanced.Goals as goal
 
 pub returns : goal.returns
@@ -30,4 +30,5 @@ returns g c =
         work = chain.work ∙ given.total;
         height = union-low _ _ _ _ _ _ given chain;
       };
+      start = terms-start _ _ _ _ _ _ _ given chain;
     }

@@ -1,6 +1,6 @@
 -- The cursor of a record that repeats comes to those that do, and the longer period is one of them all.
 use Rattle.std.proofs.Common.{arith, length-append, [], ◌∷◌}
-use Rattle.gtd_eval.specs.facts.CursorFacts.{nodes-append}
+use Rattle.gtd_eval.specs.facts.CursorFacts.{nodes-append, start-append}
 use Rattle.gtd_records.specs.Closing.{HoldsAt}
 use Rattle.gtd_records.proofs.OpenFacts.{left-more, pushed, right-more}
 use Rattle.gtd_records.proofs.PeriodFacts.{more-repeat}
@@ -39,3 +39,17 @@ returns-clause-repeats c = λ are.
     rw c.in_ok-push-2.ensures.items (more-repeat c.args.horizon c.args.self.now.period c.in-Some.period c.longer-self.result
     c.args.self.now.repeating.items c.in_ok-cursor-2.cursor (HoldsAt c.args.record.now.domain) c.longer-self.ensures.first
     c.longer-self.ensures.second c.in_ok-cursor-2.ensures.seconds c.in-Some.ensures.repeats are)
+
+pub returns-in_default-clause-start : goal.returns-in_default-clause-start
+returns-in_default-clause-start c = λ all. (
+  all.0,
+  rw c.in_ok-push.ensures.items (start-append c.args.self.now.others.items (c.in_ok-cursor.cursor ∷ []) all.1
+      (c.in_ok-cursor.ensures.start, tt)),
+)
+
+pub returns-clause-start : goal.returns-clause-start
+returns-clause-start c = λ all. (
+  rw c.in_ok-push-2.ensures.items (start-append c.args.self.now.repeating.items (c.in_ok-cursor-2.cursor ∷ []) all.0
+      (c.in_ok-cursor-2.ensures.start, tt)),
+  all.1,
+)

@@ -19,6 +19,7 @@ loop-at-init c = record {
   few = omega (arith, c.none-cursors.ensures.nodes);
   so_far = none_closing _ _ _ _ _ _ _ c.none-cursors.ensures.seconds;
   repeats = c.none-cursors.ensures.repeats c.args.horizon;
+  start = c.none-cursors.ensures.start;
 }
 
 pub returns : goal.returns
@@ -30,6 +31,7 @@ returns c =
       seconds = rw (sym c.self.view_is) (are_closing _ _ _ _ _ _ _ _ c.loop-at.invariant.so_far
           (λ row r within stands names. let at = part.all row r within stands names in (at.0, omega (arith, at.1), at.2)));
       repeats = c.loop-at.invariant.repeats;
+      start = c.loop-at.invariant.start;
     }
 
 pub loop-at-preserved : goal.loop-at-preserved
@@ -46,6 +48,7 @@ loop-at-preserved c =
                 c.loop-at-test.true p.0 c.index-restriction.ensures
                 name (w.if-adds.ensures.concerns (search rules)) w.in_ok-add.ensures.seconds old.so_far;
             repeats = w.in_ok-add.ensures.repeats old.repeats;
+            start = w.in_ok-add.ensures.start old.start;
           })
       | else-adds w ↦
           rw w.cursors-is (record {
@@ -55,5 +58,6 @@ loop-at-preserved c =
                 c.index-restriction.ensures
                 (λ k. repeats_kept _ _ _ _ _ _ _ c.self.view_is (w.if-adds.ensures.repeated (search rules) k)) old.so_far;
             repeats = old.repeats;
+            start = old.start;
           })
     ]

@@ -1,11 +1,12 @@
 -- No stretch from a day before the walk ends later than the last of its first day, so no run of the horizon is lost.
-use Rattle.std.proofs.Common.{◌≡◌, ◌∙◌, [], ap, ℕ}
+use Rattle.std.proofs.Common.{◌≡◌, ◌∙◌, [], ap, ℕ, refl, arith}
 use Rattle.std.specs.Prelude.{take}
 use Rattle.gtd_core.specs.Parts.{start_parts, duration_parts}
 use Rattle.gtd_core.specs.Whole.{from_day, to_day}
 use Rattle.gtd_core.specs.Ranges.{lookback_of}
 use Rattle.gtd_recur.specs.Work.{window_begin}
 use Rattle.gtd_recur.specs.Walking.{walk_all, walk_given, walk_to_come, walk_ticks}
+use Rattle.gtd_recur.specs.Ascending.{IsAscending}
 use Rattle.gtd_recur.specs.Stretches.{starts_ahead}
 use Rattle.gtd_recur.proofs.AscendingLemmas.{window-ascending}
 use Rattle.gtd_recur.proofs.GivenLemmas.{counted-first, horizon-order, same-all}
@@ -22,11 +23,23 @@ invariant_of-result c =
     starts_ahead-is _ _ _ c.next-ahead.ensures.takes ∙ c.from_last-walk.ensures.to_come
     ∙ same-all v s c.next-ahead.ensures.same in
     let nothing : walk_given v ≡ [] = ap (λ (k : ℕ). take k (walk_all v)) c.from_last-walk.ensures.none_handed in
+    let ascending : IsAscending (starts_ahead c.next-ahead.result (walk_to_come s)) =
+    rw all (window-ascending (start_parts s.basic.start) s.first (to_day s.horizon)) in
+    let counted =
+    counted-first v s c.next-ahead.result c.next-ahead.ensures.same nothing c.next-ahead.ensures.takes
+    c.next-ahead.ensures.at_least in
     record {
-      ascending = rw all (window-ascending (start_parts s.basic.start) s.first (to_day s.horizon));
+      start = record {
+        basic = refl;
+        horizon = refl;
+        ascending = ascending;
+        ahead_in = ahead-in _ c.next-ahead.ensures.calendar;
+        counted = counted;
+        fewer = omega arith;
+      };
+      ascending = ascending;
       ahead_in = ahead-in _ c.next-ahead.ensures.calendar;
-      counted = counted-first v s c.next-ahead.result c.next-ahead.ensures.same nothing c.next-ahead.ensures.takes
-          c.next-ahead.ensures.at_least;
+      counted = counted;
     }
 
 pub returns-clause-normal : goal.returns-clause-normal

@@ -33,6 +33,7 @@ returns-in-Some-cut c =
       takes = c.loop-self.invariant.left ∙ rw (c.in-Some.is, next.basic, next.horizon) (rw (next.basic, next.horizon) at first);
       basic = next.basic ∙ same.basic;
       horizon = next.horizon ∙ same.horizon;
+      whole = c.loop-self.invariant.whole;
       at_most = rw (← same.basic, ← same.horizon) (run-widen s.walk c.in-Some-cut.span.until _
           (omega (arith, signed_arith, begun, late)) most);
       at_least = rw (← same.basic, ← same.horizon) least;
@@ -50,6 +51,7 @@ loop-self-preserved c =
     (rw (c.from-from.ensures.value, c.until-until.ensures.value, ← same.horizon) at c.in_default-cut.ensures) in
     record {
       left = c.loop-self.invariant.left ∙ rw (c.in-Some.is, next.basic, next.horizon) (rw (next.basic, next.horizon) at none);
+      whole = c.loop-self.invariant.whole;
       same = record {
         basic = next.basic ∙ same.basic;
         horizon = next.horizon ∙ same.horizon;
