@@ -221,6 +221,62 @@ def one_element(folder):
     yield Case("one element, 14,000 rows of 89 basic domains that begin on no day, a day", schedule(packed, DAY))
 
 
+def hashed(state, text):
+    """The hash of a text after others, as `gtd` counts it (that of FNV, from 0)."""
+    for byte in text.encode("ascii"):
+        state = (state ^ byte) * 16_777_619 & 0xFFFF_FFFF
+    return state
+
+
+def pair_of_one_hash(state):
+    """Two basic domains that have one hash after a text of this hash."""
+    found = {}
+    for day in range(1, 32):
+        for minute in range(1_440):
+            front = f"(d{day}h{minute // 60}m{minute % 60}s"
+            before = hashed(state, front)
+            for second in range(60):
+                end = hashed(before, str(second))
+                piece = front + f"{second}){{h1}}"
+                if end in found:
+                    return found[end], piece
+                found[end] = piece
+    raise ValueError("no two basic domains have one hash")
+
+
+def texts_of_one_hash(count):
+    """2^count domain texts that all have one hash, of so many basic domains and one more."""
+    texts, state = [""], 0
+    for _ in range(count):
+        pair = pair_of_one_hash(state)
+        texts = [f"{text}{basic}+" for text in texts for basic in pair]
+        state = hashed(state, pair[0] + "+")
+    return [text + "(h5){h1}" for text in texts]
+
+
+def cursors(folder):
+    """Files whose elements are closed alike, or nearly so: a schedule opens a cursor again for them, or not."""
+    clocks = [f"(h{n // 3600}m{n // 60 % 60}s{n % 60}){{h2}}" for n in range(MOST_ROWS)]
+    alike = folder.elements("alike", ["(h7){h2}"] * MOST_ROWS)
+    yield Case("65,536 elements closed alike, a week", schedule(alike, WEEK))
+    yield Case("65,536 elements closed unlike all others, a week", schedule(folder.elements("none_alike", clocks), WEEK))
+    for turns in (2, 1_024, 1_025):
+        text = folder.elements(f"turns_{turns}", [clocks[n % turns] for n in range(MOST_ROWS)])
+        yield Case(f"65,536 elements closed in {turns:,} ways by turns, a week", schedule(text, WEEK))
+    texts = texts_of_one_hash(4)
+    one_hash = folder.elements("one_hash", [texts[n % len(texts)] for n in range(MOST_ROWS)])
+    yield Case("65,536 elements, 16 texts of one hash by turns, a day", schedule(one_hash, DAY))
+    for count in (32, 33):
+        rows = [joined(clock_starts(count, 600 + n % 2)) for n in range(16_384)]
+        yield Case(f"16,384 elements of {2 * count} nodes, closed in two ways by turns, a day",
+                   schedule(folder.elements(f"nodes_{count}", rows), DAY))
+    rows = [(0, clock) for clock in clocks[:MOST_ROWS // 2]] + [(n + 1, "(h7){h2}") for n in range(MOST_ROWS // 2)]
+    text = HEADER + "".join(f"{element},both,0,{domain}\n" for element, domain in rows)
+    yield Case("32,768 rows of one element beside 32,768 elements, a week", schedule(folder.file("beside", text), WEEK))
+    text = HEADER + "".join(f"{n},positive,0,{clocks[n % 7]}\n{n},negative,0,{clocks[n % 5]}\n" for n in range(MOST_ROWS // 2))
+    yield Case("32,768 elements closed otherwise in each direction, a week", schedule(folder.file("otherwise", text), WEEK))
+
+
 def many_elements(folder):
     """Files with one row for each element, whose starts are rare.
 
@@ -452,6 +508,6 @@ def cases(path):
     folder = Folder(path)
     yield from domains()
     yield from words()
-    for group in (one_row, one_element, many_elements, states, pictures, rows_in_order, one_field, vehicle_lists,
+    for group in (one_row, one_element, cursors, many_elements, states, pictures, rows_in_order, one_field, vehicle_lists,
                   tags_of_ways, hours_rows, hours_texts):
         yield from group(folder)

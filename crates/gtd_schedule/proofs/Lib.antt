@@ -7,7 +7,7 @@ pub mod MonthDays
 pub mod Pairs
 pub mod MomentParts
 pub mod FirstMoments
-pub mod SharedFacts
+pub mod CursorFacts
 pub mod ShortLines
 pub mod SplitFacts
 pub mod OrderFacts

@@ -2,7 +2,7 @@ pub mod Lines
 pub mod Moments
 pub mod Months
 pub mod Schedule
-pub mod Shared
+pub mod OpenCursors
 pub mod Shown
 pub mod Split
 pub mod Theorem

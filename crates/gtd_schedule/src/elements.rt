@@ -3,15 +3,16 @@
 ghost use Rattle.std.specs.Prelude.{◌≡◌, ◌+◌, ◌*◌, ◌<◌, ◌≤◌, ◌^◌, length, map, OnOk};
 ghost use Rattle.gtd_report.specs.Putting.{Puts, PutsText, failures_after_stop};
 ghost use Rattle.gtd_report.specs.Putting.{most_direction_bytes, most_direction_lines};
-ghost use Rattle.gtd_eval.specs.Membership.{IsNormalOver};
-ghost use Rattle.gtd_records.specs.Closing.{IsOpen};
+ghost use Rattle.gtd_eval.specs.Cursors.{cursor_list, cursor_whole};
 ghost use Rattle.gtd_schedule.specs.Lines.{AreShown, span_line};
+ghost use Rattle.gtd_schedule.specs.OpenCursors.{AreOpenSeconds};
 ghost use Rattle.gtd_schedule.specs.Schedule.{AreLines};
 
 use crate::line::{FirstMoments, write_first_moments, write_head, write_span};
 use crate::put::put_whole;
 use crate::run::Schedule;
 use gtd_devices::Output;
+use gtd_eval::KeptCursor;
 use gtd_records::Records;
 use gtd_report::{DirectedElement, Printer, Stop};
 use gtd_spans::SpanSource;
@@ -23,22 +24,31 @@ pub(crate) struct ScheduleLines {
     pub(crate) first: FirstMoments,
 }
 
-// Puts a line for each span that a source hands out.
-fn put_spans<O: Output, S: SpanSource>(
+/// The records of a file, and the lines of their schedule.
+#[derive(Clone, Copy)]
+pub(crate) struct ScheduleText<'a> {
+    pub(crate) found: &'a Records,
+    pub(crate) lines: &'a ScheduleLines,
+}
+
+// Puts a line for each span that a cursor hands out.
+fn put_spans<O: Output>(
     output: &mut O,
     printer: &mut Printer,
     at: DirectedElement,
     lines: &ScheduleLines,
-    spans: &mut S,
+    spans: &mut KeptCursor,
 ) -> Result<(), Stop>
     requires countable { O.failure_count output.old < u64.MAX }
-    requires shown { AreShown (S.rest spans.old) }
-    requires written { printer.old.progress.written + 80 * length (S.rest spans.old) < 2 ^ 64 }
-    requires lines { printer.old.progress.lines + length (S.rest spans.old) < 2 ^ 64 }
+    requires shown { AreShown (cursor_list spans.old) }
+    requires written { printer.old.progress.written + 80 * length (cursor_list spans.old) < 2 ^ 64 }
+    requires lines { printer.old.progress.lines + length (cursor_list spans.old) < 2 ^ 64 }
     ensures puts { Puts result (O.taken output.old) (O.taken output.new) printer.old.progress printer.new.progress
-        (map (span_line at.element at.direction lines.now.schedule.vehicle) (S.rest spans.old)) }
-    ensures near { OnOk result ((printer.new.progress.written ≤ printer.old.progress.written + 80 * length (S.rest spans.old))
-        × (printer.new.progress.lines ≤ printer.old.progress.lines + length (S.rest spans.old))) }
+        (map (span_line at.element at.direction lines.now.schedule.vehicle) (cursor_list spans.old)) }
+    ensures near { OnOk result
+        ((printer.new.progress.written ≤ printer.old.progress.written + 80 * length (cursor_list spans.old))
+        × (printer.new.progress.lines ≤ printer.old.progress.lines + length (cursor_list spans.old))) }
+    ensures whole { cursor_whole spans.new ≡ cursor_whole spans.old }
     ensures failures { O.failure_count output.new
         ≡ failures_after_stop result (O.failure_count output.old) }
 {
@@ -57,26 +67,26 @@ fn put_spans<O: Output, S: SpanSource>(
     Ok(())
 }
 
-/// Puts the lines of an element in a direction. A source hands out the spans in which it is open.
-pub(crate) fn put_direction_spans<O: Output, S: SpanSource>(
+/// Puts the lines of an element in a direction. A cursor hands out the spans in which it is open.
+pub(crate) fn put_direction_spans<O: Output>(
     output: &mut O,
     printer: &mut Printer,
-    _found: &Records,
+    text: ScheduleText<'_>,
     at: DirectedElement,
-    lines: &ScheduleLines,
-    spans: &mut S,
+    spans: &mut KeptCursor,
 ) -> Result<(), Stop>
     requires countable { O.failure_count output.old < u64.MAX }
     requires written { printer.old.progress.written + most_direction_bytes < 2 ^ 64 }
     requires lines { printer.old.progress.lines + most_direction_lines < 2 ^ 64 }
-    requires seconds { IsNormalOver (IsOpen _found.now at.element at.direction lines.now.schedule.vehicle)
-        lines.now.schedule.horizon (S.rest spans.old) }
-    ensures puts { PutsText (AreLines _found.now lines.now.schedule.vehicle lines.now.schedule.horizon at.element at.direction)
+    requires seconds { AreOpenSeconds text.found.now text.lines.now.schedule at (cursor_list spans.old) }
+    ensures puts { PutsText (AreLines text.entry.found.now text.entry.lines.now.schedule.vehicle
+        text.entry.lines.now.schedule.horizon at.element at.direction)
         result (O.taken output.old) (O.taken output.new) printer.old.progress printer.new.progress }
     ensures near { OnOk result ((printer.new.progress.written ≤ printer.old.progress.written + most_direction_bytes)
         × (printer.new.progress.lines ≤ printer.old.progress.lines + most_direction_lines)) }
+    ensures whole { cursor_whole spans.new ≡ cursor_whole spans.old }
     ensures failures { O.failure_count output.new
         ≡ failures_after_stop result (O.failure_count output.old) }
 {
-    put_spans(output, printer, at, lines, spans)
+    put_spans(output, printer, at, text.lines, spans)
 }

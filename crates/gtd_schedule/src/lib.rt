@@ -3,12 +3,12 @@
 
 pub use run::{Schedule, run_schedule};
 
+mod cursors;
 mod elements;
+mod hash_places;
 pub mod laws;
 mod line;
 mod moment;
-mod places;
 mod put;
 mod run;
-mod shared;
 mod text;

@@ -7,14 +7,14 @@ ghost use Rattle.gtd_schedule.specs.Schedule.{IsSchedule};
 ghost use Rattle.gtd_schedule.specs.Shown.{ShowsOpen};
 ghost use Rattle.gtd_schedule.specs.Theorem.{Headline};
 
-use crate::elements::ScheduleLines;
+use crate::cursors::OpenCursors;
+use crate::elements::{ScheduleLines, ScheduleText};
 use crate::line::FirstMoments;
-use crate::shared::{Job, shared_spans};
-use crate::text::ScheduleText;
+use crate::text::put_elements;
 use gtd_core::Horizon;
 use gtd_devices::{Input, Output};
 use gtd_records::{RecordFault, Records};
-use gtd_report::{Printer, Report, RunFault, Stop, Subject, put_by_element, run_report};
+use gtd_report::{Printer, Report, RunFault, Stop, Subject, finish, put_line, run_report};
 use std::alloc::Global;
 
 /// The schedule over the days of a horizon, for a vehicle type.
@@ -46,22 +46,20 @@ impl Report for Schedule {
         found: &Records,
     ) -> Result<(), Stop> {
         let header = b"element,direction,vehicle,from,until\n";
-        let job = Job {
-            found,
-            schedule: *self,
-        };
-        let shared = shared_spans(printer.alloc, job)?;
+        let elements = found.elements();
+        let mut cursors = OpenCursors::new(printer.alloc, elements.len())?;
         let first = FirstMoments::of(self.horizon.from());
         let lines = ScheduleLines {
             schedule: *self,
             first,
         };
         let text = ScheduleText {
-            lines: &lines,
             found,
-            shared: &shared,
+            lines: &lines,
         };
-        put_by_element(output, printer, found, header, &text)
+        put_line(output, &mut printer.progress, header)?;
+        put_elements(output, printer, text, &mut cursors, elements)?;
+        finish(output)
     }
 }
 
@@ -69,10 +67,11 @@ impl Report for Schedule {
 /// 99. Answers the number of its lines, the header included.
 ///
 /// In order: `VehicleRange`; then the first fault of reading the file (`Records`); then `WriteFault` or `NoMemory`,
-/// whichever happens first. Nothing is put until the whole file has been read and accepted. Of elements that rows with the same
-/// domains close, the spans are found once, if they are few: for each row of the file 16 are kept, and 65,536 at most. Each other
-/// span is put as it is found, and at most 4,096 spans are kept of each period that repeats in the rows of an element and a
-/// direction. Before the call, the failures of both devices must be below `u64::MAX`.
+/// whichever happens first. Nothing is put until the whole file has been read and accepted. Each span is put as it is handed
+/// out; no list of spans is kept. Elements that rows with the same domains close share a cursor, which begins again for each
+/// of them. At most 1,024 cursors are kept for that, of at most 64 nodes each, and beside them the last one that is not. A
+/// cursor keeps the spans of each period after which its rows repeat, at most 4,096, and as many that came before these; those
+/// that are shared have room for 65,536 spans in all. Before the call, the failures of both devices must be below `u64::MAX`.
 ///
 /// ```
 /// let file = b"element,direction,vehicle,domain\n17,negative,11,\n";

@@ -1,5 +1,6 @@
 use Rattle.std.proofs.Common.{arith, ◌≤◌, ◌+◌, ◌*◌, ℕ, length, map}
 use Rattle.std.specs.Prelude.{Ok, Err, OnOk, Result}
+use Rattle.gtd_eval.specs.Cursors.{cursor_list}
 use Rattle.gtd_records.specs.Closing.{IsOpen}
 use Rattle.gtd_report.specs.declared.output.Progress.{Progress}
 use Rattle.gtd_report.specs.declared.output.Stop.{Stop}
@@ -25,25 +26,25 @@ near (Err x) p q count few put = tt
 pub put_spans-requires-clause-shown : goal.put_spans-requires-clause-shown
 put_spans-requires-clause-shown g c =
     let at = c.args.at in
-    let schedule = c.args.lines.now.schedule in
-    normal_shown (IsOpen c.args._found.now at.element at.direction schedule.vehicle) schedule.horizon
-    (g.S.SpanSource.rest c.args.spans.now) c.requires.seconds
+    let schedule = c.args.text.lines.now.schedule in
+    normal_shown (IsOpen c.args.text.found.now at.element at.direction schedule.vehicle) schedule.horizon
+    (cursor_list c.args.spans.now) c.requires.seconds
 
 pub put_spans-requires-clause-written : goal.put_spans-requires-clause-written
 put_spans-requires-clause-written g c =
     let at = c.args.at in
-    let schedule = c.args.lines.now.schedule in
-    let few = normal_few (IsOpen c.args._found.now at.element at.direction schedule.vehicle) schedule.horizon
-    (g.S.SpanSource.rest c.args.spans.now) c.requires.seconds in
+    let schedule = c.args.text.lines.now.schedule in
+    let few = normal_few (IsOpen c.args.text.found.now at.element at.direction schedule.vehicle) schedule.horizon
+    (cursor_list c.args.spans.now) c.requires.seconds in
     let room = c.requires.written in
     omega arith
 
 pub put_spans-requires-clause-lines : goal.put_spans-requires-clause-lines
 put_spans-requires-clause-lines g c =
     let at = c.args.at in
-    let schedule = c.args.lines.now.schedule in
-    let few = normal_few (IsOpen c.args._found.now at.element at.direction schedule.vehicle) schedule.horizon
-    (g.S.SpanSource.rest c.args.spans.now) c.requires.seconds in
+    let schedule = c.args.text.lines.now.schedule in
+    let few = normal_few (IsOpen c.args.text.found.now at.element at.direction schedule.vehicle) schedule.horizon
+    (cursor_list c.args.spans.now) c.requires.seconds in
     let room = c.requires.lines in
     omega arith
 
@@ -51,17 +52,17 @@ pub returns-clause-puts : goal.returns-clause-puts
 returns-clause-puts g c =
     let taken = g.O.Output.taken in
     let at = c.args.at in
-    let schedule = c.args.lines.now.schedule in
-    let spans = g.S.SpanSource.rest c.args.spans.now in
-    texts_of (AreLines c.args._found.now schedule.vehicle schedule.horizon at.element at.direction) c.put_spans.result
+    let schedule = c.args.text.lines.now.schedule in
+    let spans = cursor_list c.args.spans.now in
+    texts_of (AreLines c.args.text.found.now schedule.vehicle schedule.horizon at.element at.direction) c.put_spans.result
     (taken c.args.output.now) (taken c.put_spans.new.output) c.args.printer.now.progress c.put_spans.new.printer.progress
     (map (span_line at.element at.direction schedule.vehicle) spans)
-    (one_lines c.args._found.now schedule.vehicle schedule.horizon at.element at.direction)
+    (one_lines c.args.text.found.now schedule.vehicle schedule.horizon at.element at.direction)
     (record {
       spans = spans;
       normal = c.requires.seconds;
       each = lines_are at.element at.direction schedule.vehicle spans (
-          normal_shown (IsOpen c.args._found.now at.element at.direction schedule.vehicle) schedule.horizon
+          normal_shown (IsOpen c.args.text.found.now at.element at.direction schedule.vehicle) schedule.horizon
           spans c.requires.seconds
           );
     })
@@ -70,8 +71,8 @@ returns-clause-puts g c =
 pub returns-clause-near : goal.returns-clause-near
 returns-clause-near g c =
     let at = c.args.at in
-    let schedule = c.args.lines.now.schedule in
-    let spans = g.S.SpanSource.rest c.args.spans.now in
+    let schedule = c.args.text.lines.now.schedule in
+    let spans = cursor_list c.args.spans.now in
     near c.put_spans.result c.args.printer.now.progress c.put_spans.new.printer.progress (length spans)
-    (normal_few (IsOpen c.args._found.now at.element at.direction schedule.vehicle) schedule.horizon spans
+    (normal_few (IsOpen c.args.text.found.now at.element at.direction schedule.vehicle) schedule.horizon spans
     c.requires.seconds) c.put_spans.ensures.near

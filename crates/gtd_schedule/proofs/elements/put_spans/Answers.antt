@@ -5,6 +5,7 @@ use Rattle.std.proofs.Math.Seq.{drop-append_seam}
 use Rattle.std.proofs.lemmas.List.{take_at, length-take-le}
 use Rattle.std.proofs.lemmas.Result.{err_from_is_err_and}
 use Rattle.gtd_core.specs.Seconds.{Interval}
+use Rattle.gtd_eval.specs.Cursors.{cursor_list}
 use Rattle.gtd_records.specs.declared.direction.Direction.{Direction}
 use Rattle.gtd_report.specs.facts.PutFacts.{one_put, one_short}
 use Rattle.gtd_report.specs.Putting.{Puts}
@@ -63,6 +64,7 @@ loop-span-init g c =
           c.in_ok-shown.ensures.line.1 c.in_ok-shown.ensures.line.2;
       written = omega arith;
       lines = omega arith;
+      whole = refl;
       failures = refl;
       carries = λ r d s puts. puts;
     }
@@ -75,19 +77,16 @@ write_span-requires-clause-shown g c = c.loop-span.invariant.moments
 
 pub write_span-requires-clause-from : goal.write_span-requires-clause-from
 write_span-requires-clause-from g c =
-    let rest = g.S.SpanSource.rest in
-    (shown_first c.in-Some.span (rest c.next.new.self) (rest c.loop-span.spans) c.loop-span.invariant.shown
+    (shown_first c.in-Some.span (cursor_list c.next.new.self) (cursor_list c.loop-span.spans) c.loop-span.invariant.shown
     c.in-Some.ensures.takes).0
 
 pub write_span-requires-clause-until : goal.write_span-requires-clause-until
 write_span-requires-clause-until g c =
-    let rest = g.S.SpanSource.rest in
-    (shown_first c.in-Some.span (rest c.next.new.self) (rest c.loop-span.spans) c.loop-span.invariant.shown
+    (shown_first c.in-Some.span (cursor_list c.next.new.self) (cursor_list c.loop-span.spans) c.loop-span.invariant.shown
     c.in-Some.ensures.takes).1
 
 pub put_whole-requires-clause-written : goal.put_whole-requires-clause-written
 put_whole-requires-clause-written g c =
-    let rest = g.S.SpanSource.rest in
     let i = c.loop-span.invariant in
     let e = c.args.at.element in
     let d = c.args.at.direction in
@@ -97,16 +96,15 @@ put_whole-requires-clause-written g c =
     let is = whole_line e d v x (take c.len-head.result c.loop-span.printer.line.items) c.write_span.new.line.items line i.head
     c.write_span.ensures.line c.as_slice.ensures.value in
     let short : length line ≤ 80 = rw is (length-put_line e d v x (omega arith) (omega arith)) in
-    (room_written c.loop-span.printer.progress.written c.args.printer.now.progress.written (length (rest c.args.spans.now))
-    (length line) (length (rest c.next.new.self))
+    (room_written c.loop-span.printer.progress.written c.args.printer.now.progress.written (length (cursor_list c.args.spans.now))
+    (length line) (length (cursor_list c.next.new.self))
     (rw (c.in-Some.ensures.takes) at i.written) c.requires.written short).0
 
 pub put_whole-requires-clause-lines : goal.put_whole-requires-clause-lines
 put_whole-requires-clause-lines g c =
-    let rest = g.S.SpanSource.rest in
     let i = c.loop-span.invariant in
-    (room_lines c.loop-span.printer.progress.lines c.args.printer.now.progress.lines (length (rest c.args.spans.now))
-    (length (rest c.next.new.self))
+    (room_lines c.loop-span.printer.progress.lines c.args.printer.now.progress.lines (length (cursor_list c.args.spans.now))
+    (length (cursor_list c.next.new.self))
     (rw (c.in-Some.ensures.takes) at i.lines) c.requires.lines).0
 
 -- a line has its LF
@@ -126,7 +124,6 @@ put_whole-requires-clause-offered g c =
 
 pub loop-span-preserved : goal.loop-span-preserved
 loop-span-preserved g c =
-    let rest = g.S.SpanSource.rest in
     let i = c.loop-span.invariant in
     let e = c.args.at.element in
     let d = c.args.at.direction in
@@ -136,7 +133,7 @@ loop-span-preserved g c =
     let now = c.loop-span.printer.line.items in
     let n = c.len-head.result in
     let line = c.as_slice.result.now in
-    let more = rest c.next.new.self in
+    let more = cursor_list c.next.new.self in
     let takes = c.in-Some.ensures.takes in
     let is = whole_line e d v x (take n now) c.write_span.new.line.items line i.head c.write_span.ensures.line
     c.as_slice.ensures.value in
@@ -151,29 +148,29 @@ loop-span-preserved g c =
     let so_far = c.loop-span.printer.progress in
     let one : Puts (Ok tt) b t so_far c.put_whole.new.progress (f x ∷ []) =
     one_put (f x) b t so_far c.put_whole.new.progress (rw is at put.all) (rw is at put.progress) in
-    let written = (room_written so_far.written before.written (length (rest c.args.spans.now)) (length line) (length more)
+    let written = (room_written so_far.written before.written (length (cursor_list c.args.spans.now)) (length line) (length more)
     (rw takes at i.written) c.requires.written short).1 in
-    let lines = (room_lines so_far.lines before.lines (length (rest c.args.spans.now)) (length more) (rw takes at i.lines)
+    let lines = (room_lines so_far.lines before.lines (length (cursor_list c.args.spans.now)) (length more) (rw takes at i.lines)
     c.requires.lines).1 in
     let after = put.progress in
     record {
-      shown = (shown_first x more (rest c.loop-span.spans) i.shown takes).2;
+      shown = (shown_first x more (cursor_list c.loop-span.spans) i.shown takes).2;
       room = kept.0;
       head = kept.1 ∙ i.head;
       moments = moments_after c.write_span.new.shown (take n now) c.write_span.new.line.items (span_text x) n
           (long_head n now i.room) c.write_span.ensures.line c.write_span.ensures.shown;
       written = rw after written;
       lines = rw after lines;
+      whole = c.next.ensures.whole ∙ i.whole;
       failures = put.failures ∙ i.failures;
       carries = carries_one a b t before so_far c.put_whole.new.progress
-          (map f (rest c.args.spans.now)) (map f (rest c.loop-span.spans)) (map f more) (f x) i.carries
-          (next_lines f x more (rest c.loop-span.spans) takes) one;
+          (map f (cursor_list c.args.spans.now)) (map f (cursor_list c.loop-span.spans)) (map f more) (f x) i.carries
+          (next_lines f x more (cursor_list c.loop-span.spans) takes) one;
     }
 
 pub returns-in_err-put_whole-clause-puts : goal.returns-in_err-put_whole-clause-puts
 returns-in_err-put_whole-clause-puts g c =
     let p = err_from_is_err_and c.from_residual-in_err-put_whole.result c.from_residual-in_err-put_whole.ensures.1 in
-    let rest = g.S.SpanSource.rest in
     let i = c.loop-span.invariant in
     let e = c.args.at.element in
     let d = c.args.at.direction in
@@ -181,7 +178,7 @@ returns-in_err-put_whole-clause-puts g c =
     let f = span_line e d v in
     let x = c.in-Some.span in
     let line = c.as_slice.result.now in
-    let more = rest c.next.new.self in
+    let more = cursor_list c.next.new.self in
     let is = whole_line e d v x (take c.len-head.result c.loop-span.printer.line.items) c.write_span.new.line.items line i.head
     c.write_span.ensures.line c.as_slice.ensures.value in
     let put = c.in_err-put_whole.ensures in
@@ -193,16 +190,15 @@ returns-in_err-put_whole-clause-puts g c =
     one_short p.0 (f x) c.in_err-put_whole.field-0.0.taken b t so_far c.put_whole.new.progress (rw is at put.some.0)
     (rw is at put.some.1) put.progress in
     rw (p.1) (carries_short a b t c.args.printer.now.progress so_far c.put_whole.new.progress
-    (map f (rest c.args.spans.now)) (map f (rest c.loop-span.spans)) (map f more) (f x) p.0 i.carries
-    (next_lines f x more (rest c.loop-span.spans) c.in-Some.ensures.takes) short)
+    (map f (cursor_list c.args.spans.now)) (map f (cursor_list c.loop-span.spans)) (map f more) (f x) p.0 i.carries
+    (next_lines f x more (cursor_list c.loop-span.spans) c.in-Some.ensures.takes) short)
 
 pub returns-clause-puts : goal.returns-clause-puts
 returns-clause-puts g c =
-    let rest = g.S.SpanSource.rest in
     let f = span_line c.args.at.element c.args.at.direction c.args.lines.now.schedule.vehicle in
     carries_none (g.O.Output.taken c.args.output.now) (g.O.Output.taken c.loop-span.output) c.args.printer.now.progress
     c.loop-span.printer.progress
-    (map f (rest c.args.spans.now)) (map f (rest c.loop-span.spans)) c.loop-span.invariant.carries
+    (map f (cursor_list c.args.spans.now)) (map f (cursor_list c.loop-span.spans)) c.loop-span.invariant.carries
     (ap (map f) c.in_default.ensures.takes.0)
 
 pub returns-clause-near : goal.returns-clause-near
