@@ -603,6 +603,22 @@ def check_requests(browser, address):
     same(thrown, [], "errors in the console")
 
 
+def check_policy(browser, address):
+    """Text that comes into the page as elements would neither turn its addresses elsewhere nor send anything."""
+    browser.go(address + "#domain", READY)
+    browser.run("document.head.append(Object.assign(document.createElement('base'), { href: 'https://elsewhere.invalid/' }))")
+    check(browser.run("document.baseURI").startswith(address), "a base element turns the page's addresses elsewhere")
+    refused = browser.run("""new Promise((done) => {
+        document.addEventListener("securitypolicyviolation", (it) => done(it.effectiveDirective));
+        const form = Object.assign(document.createElement("form"), { action: "/elsewhere", method: "post" });
+        document.body.append(form);
+        form.submit();
+        setTimeout(() => done("nothing"), 2000);
+    })""")
+    same(refused, "form-action", "what is refused of a form")
+    browser.go(address + "#domain", READY)
+
+
 def check_browser(browser):
     """The browser has a memory of 64 bits in WebAssembly, as it has from this version on."""
     product = browser.send("Browser.getVersion")["product"]
@@ -640,6 +656,7 @@ def main():
             parts += [lambda: check_files(browser, address, os.path.join(room, "files"))]
             parts += [lambda one=one: one(browser, address) for one in (check_people, check_keyboard, check_lacking)]
             parts += [lambda: check_pixels(browser, address, room), lambda: check_requests(browser, address)]
+            parts += [lambda: check_policy(browser, address)]
         try:
             browser.size(1280)
             browser.scheme("light")
