@@ -203,9 +203,9 @@ fn run_with<I: Input, O: Output>(
 ///
 /// Errors, in their order: `MeansReadFault`, `MeansEndless` or `NoMemory` while the table is read; `Faults` if it is at fault,
 /// before the file of tags is pulled; `TagsReadFault`, `TagsEndless` or `NoMemory` while that is read; `Faults` if it or a value
-/// in it is at fault; `TooManyRows` if the record file would have more than 65,536 rows; then `WriteFault` or `NoMemory`, whichever
-/// happens first. `Faults` has the list of all faults, and nothing is put then, nor after `TooManyRows`. Before the call, the
-/// failures of the three devices must be below `u64::MAX`.
+/// in it is at fault; `TooManyRows` if the record file would have more than 65,536 rows; then `WriteFault` or `NoMemory`,
+/// whichever happens first. `Faults` has the list of all faults, and nothing is put then, nor after `TooManyRows`. Before the
+/// call, the failures of the three devices must be below `u64::MAX`.
 pub fn run_conditions<I: Input, J: Input, O: Output>(
     alloc: Global,
     tags: &mut I,
@@ -216,11 +216,11 @@ pub fn run_conditions<I: Input, J: Input, O: Output>(
     requires readable { I.failure_count tags.old < u64.MAX }
     requires means_readable { J.failure_count means.old < u64.MAX }
     requires writable { O.failure_count output.old < u64.MAX }
-    // What each answer means. The number of lines: the output took the record file of the rows that the two files stand for,
-    // which are at most 65,536. `TooManyRows`: they are more, exactly as many as it gives, and nothing was put. `Faults`: the text
-    // lists all faults of the table of means, or, if it has none, of the file of tags, and nothing was put. `WriteFault`, or
-    // `NoMemory` after both files were read: the rows are at most 65,536, and the output took a first part of the lines of the
-    // first of them.
+    // What each answer means. The number of lines: the output took the record file of the rows that the two files stand for, of
+    // which there are at most 65,536. `TooManyRows`: there are more, exactly as many as it gives, and nothing was put. `Faults`:
+    // the text lists all faults of the table of means, or, if that has none, of the file of tags, and nothing was put.
+    // `WriteFault`, or `NoMemory` after both files were read: there are at most 65,536 rows, and the output took a first part of
+    // their lines.
     ensures stands { HasConverted (how_read reading.entry.hours) (spec.paths_of reading.entry.paths) (J.to_come means.old)
         (I.to_come tags.old) (O.taken output.old) (O.taken output.new) (lines_of result) }
     // The warnings are those of the hours in the values, down to the last byte, each with the line on which the row begins.

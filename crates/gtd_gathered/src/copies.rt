@@ -3,7 +3,7 @@
 ghost use Rattle.std.specs.Prelude.{◌≡◌, ◌≤◌, ◌+◌, ◌++◌, length, drop, take};
 
 /// Copies the bytes to an offset in a text.
-pub fn copy_at(text: &mut [u8], offset: usize, bytes: &[u8])
+pub(crate) fn copy_at(text: &mut [u8], offset: usize, bytes: &[u8])
     requires room { offset + length bytes.now ≤ length text.old }
     ensures text { text.new ≡ take offset text.old ++ (bytes.now ++ drop (length bytes.now) (drop offset text.old)) }
 {
@@ -14,7 +14,7 @@ pub fn copy_at(text: &mut [u8], offset: usize, bytes: &[u8])
 
 /// Copies 32 to 64 bytes to an offset in a text, after which it has at least 64.
 #[inline(always)]
-pub fn copy_line_at(text: &mut [u8], offset: usize, bytes: &[u8])
+pub(crate) fn copy_line_at(text: &mut [u8], offset: usize, bytes: &[u8])
     requires least { 32 ≤ length bytes.now }
     requires most { length bytes.now ≤ 64 }
     requires room { offset + 64 ≤ length text.old }

@@ -57,7 +57,7 @@ pub struct ConditionsTurn<'a> {
     pub plan: &'a ConditionsPlan,
     /// The options.
     pub options: &'a PlanOptions<'a>,
-    // They are those that the plan gives, with a table that was read from the path that it names, or with none if it names none.
+    // They are those that the plan gives. If it names a table of holidays, that was read from this path; else there is none.
     pub ghost given: { AreOptionsOf plan.now.options options.now } by { Prim.hlevel props },
 }
 

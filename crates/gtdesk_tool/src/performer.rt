@@ -158,8 +158,8 @@ pub struct Turn<'a> {
     pub path: &'a str,
     /// The options; any, if the file is none of opening hours.
     pub options: &'a PlanOptions<'a>,
-    // If it is one, they are those that the plan gives, with a table that was read from the path that it names, or with none if it
-    // names none.
+    // If it is one, they are those that the plan gives. If the plan names a table of holidays, that was read from this path; else
+    // there is none.
     pub ghost given: { AreOptionsIn plan.now options.now } by { Prim.hlevel props },
 }
 
