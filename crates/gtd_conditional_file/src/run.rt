@@ -216,9 +216,9 @@ pub fn run_conditions<I: Input, J: Input, O: Output>(
     requires readable { I.failure_count tags.old < u64.MAX }
     requires means_readable { J.failure_count means.old < u64.MAX }
     requires writable { O.failure_count output.old < u64.MAX }
-    // What each answer means. The number of lines: the output took the record file of the rows that the two files stand for, of
-    // which there are at most 65,536. `TooManyRows`: there are more, exactly as many as it gives, and nothing was put. `Faults`:
-    // the text lists all faults of the table of means, or, if that has none, of the file of tags, and nothing was put.
+    // What each result means. The number of lines: the output took the record file of the rows that these two files give, at most
+    // 65,536. `TooManyRows`: there are more rows, exactly as many as it gives, and the output took nothing. `Faults`: the text
+    // lists all faults of the table of means or, if the table has none, of the file of tags, and the output took nothing.
     // `WriteFault`, or `NoMemory` after both files were read: there are at most 65,536 rows, and the output took a first part of
     // their lines.
     ensures stands { HasConverted (how_read reading.entry.hours) (spec.paths_of reading.entry.paths) (J.to_come means.old)

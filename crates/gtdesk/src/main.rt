@@ -75,8 +75,7 @@ fn run_file(rt: &HostRuntime, turn: Turn<'_>) -> Result<Ending, RunRefusal> {
     }
 }
 
-// Carries a plan out, with its options, for one file after the other, and tells why a file is refused. After an output that
-// failed, no file follows.
+// Runs a plan on its files in turn, and reports why a file is refused. It stops after an output that failed.
 fn run_files<'a>(
     rt: &HostRuntime,
     plan: &'a OnePlan,
@@ -333,7 +332,7 @@ fn run_tags(rt: &HostRuntime, turn: ConditionsTurn<'_>) -> Result<Ending, RunRef
     }
 }
 
-// Carries the plan of `conditions` out, with its options, and tells why one of its files is refused.
+// Runs the plan of `conditions`, and reports why one of its files is refused.
 fn run_turn(rt: &HostRuntime, turn: ConditionsTurn<'_>) -> ExitCode {
     let answer = run_tags(rt, turn);
     let path = match answer {

@@ -57,7 +57,7 @@ pub struct ConditionsTurn<'a> {
     pub plan: &'a ConditionsPlan,
     /// The options.
     pub options: &'a PlanOptions<'a>,
-    // They are those that the plan gives. If it names a table of holidays, that was read from this path; else there is none.
+    // The plan gives these options. If it names a table of holidays, their table was read from that path; else they have none.
     pub ghost given: { AreOptionsOf plan.now.options options.now } by { Prim.hlevel props },
 }
 

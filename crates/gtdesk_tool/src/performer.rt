@@ -158,8 +158,8 @@ pub struct Turn<'a> {
     pub path: &'a str,
     /// The options; any, if the file is none of opening hours.
     pub options: &'a PlanOptions<'a>,
-    // If it is one, they are those that the plan gives. If the plan names a table of holidays, that was read from this path; else
-    // there is none.
+    // For a file of opening hours, the plan gives these options. If it names a table of holidays, their table was read from that
+    // path; else they have none.
     pub ghost given: { AreOptionsIn plan.now options.now } by { Prim.hlevel props },
 }
 
