@@ -16,6 +16,7 @@ pub mod Periods
 pub mod Shape
 pub mod Single
 pub mod Stays
+pub mod Taking
 pub mod Weekly
 pub mod facts
 pub use Rattle.gtd_core.specs.Seconds

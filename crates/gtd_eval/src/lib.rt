@@ -17,6 +17,7 @@ pub use node::Node;
 pub use period::period_of;
 pub use queries::{next_change, spans};
 pub use stay::{Stay, days_to_look, stay_of};
+pub use taker::SpanTaker;
 pub use tree::SweepTree;
 
 mod basic_stays;
@@ -34,4 +35,6 @@ mod open;
 mod period;
 mod queries;
 mod stay;
+mod taker;
+mod taking;
 mod tree;

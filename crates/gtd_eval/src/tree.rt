@@ -100,14 +100,14 @@ impl<L: Leaf> SweepTree<L> {
                 moved: false,
             });
         }
-        let moved = SweepTree::<L>::some_moved(&cursors);
+        let moved = SweepTree::<L>::some_moved(cursors.as_slice());
         let node = SweepTree::<L>::join_last(alloc, Op::Union, &mut cursors, count)?;
         Ok(SweepTree { node, moved })
     }
 
     // Whether any of the cursors may have handed out a span since it began.
-    fn some_moved(cursors: &Vec<SweepTree<L>>) -> bool
-        ensures none { IsFalse result → AllAtStart cursors.now.items }
+    fn some_moved(cursors: &[SweepTree<L>]) -> bool
+        ensures none { IsFalse result → AllAtStart cursors.now }
     {
         let mut first = cursors.len();
         while first > 0 {

@@ -27,4 +27,5 @@ returns-clause-kept c =
 
 pub returns-clause-list : goal.returns-clause-list
 returns-clause-list c =
-    rest-all c.give_up.new.self (cursor_list c.begin_again-2.new.self) c.give_up.ensures.ended (given-up-repeats-not c.give_up.new.self.stage c.give_up.ensures.stage) ∙ c.begin_again-2.ensures.list
+    rest-all c.give_up.new.self (cursor_list c.begin_again-2.new.self) c.give_up.ensures.ended
+    (given-up-repeats-not c.give_up.new.self.stage c.give_up.ensures.stage) ∙ c.begin_again-2.ensures.list

@@ -5,8 +5,8 @@ use Rattle.gtd_eval.proofs.tree.SweepTree.some_moved.Given as goal
 
 abbrev pub invariant-loop-first : goal.invariant-loop-first
 invariant-loop-first g l = record {
-  within : l.first ≤ length l.cursors.items;
-  rest : AllAtStart (drop l.first l.cursors.items);
+  within : l.first ≤ length l.cursors;
+  rest : AllAtStart (drop l.first l.cursors);
 }
 
 abbrev pub decreases-loop-first : goal.decreases-loop-first

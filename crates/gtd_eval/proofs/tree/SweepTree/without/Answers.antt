@@ -20,7 +20,8 @@ invariant_of-result-clause-small g c = rw c.in_ok-both.ensures.ok (omega (arith,
 pub invariant_of-result-clause-still : goal.invariant_of-result-clause-still
 invariant_of-result-clause-still g c = λ f.
     let both = c.either_moved-moved.ensures.neither f in
-    rw c.in_ok-both.ensures.ok (minus-start c.args.cursor c.args.other _ (c.new-2.ensures.meaning _ _) (c.args.cursor.still both.0)
+    rw c.in_ok-both.ensures.ok (minus-start c.args.cursor c.args.other _ (c.new-2.ensures.meaning _ _)
+    (c.args.cursor.still both.0)
     (c.args.other.still both.1))
 
 pub returns-clause-start : goal.returns-clause-start
