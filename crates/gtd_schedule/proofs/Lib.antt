@@ -2,7 +2,7 @@
 pub mod SpanLines
 pub mod SomeSchedule
 pub mod ScheduleFacts
-pub mod SpanFacts
+pub mod HandedFacts
 pub mod MonthDays
 pub mod Pairs
 pub mod MomentParts

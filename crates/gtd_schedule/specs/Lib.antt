@@ -1,3 +1,4 @@
+pub mod Handed
 pub mod Lines
 pub mod Moments
 pub mod Months

@@ -8,14 +8,15 @@ ghost use Rattle.gtd_schedule.specs.Lines.{AreShown, span_line};
 ghost use Rattle.gtd_schedule.specs.OpenCursors.{AreOpenSeconds};
 ghost use Rattle.gtd_schedule.specs.Schedule.{AreLines};
 
-use crate::line::{FirstMoments, write_first_moments, write_head, write_span};
+use crate::line::{FirstMoments, ShownSpan, write_first_moments, write_head, write_span};
 use crate::put::put_whole;
 use crate::run::Schedule;
+use gtd_core::Span;
 use gtd_devices::Output;
-use gtd_eval::KeptCursor;
+use gtd_eval::{KeptCursor, SpanTaker};
 use gtd_records::Records;
-use gtd_report::{DirectedElement, Printer, Stop};
-use gtd_spans::SpanSource;
+use gtd_report::{DirectedElement, Printer, Progress, Stop};
+use std::mem::replace;
 
 /// The lines of a schedule, and the moments over which the first of an element in a direction is written.
 #[derive(Drop)]
@@ -29,6 +30,36 @@ pub(crate) struct ScheduleLines {
 pub(crate) struct ScheduleText<'a> {
     pub(crate) found: &'a Records,
     pub(crate) lines: &'a ScheduleLines,
+}
+
+/// The line of a span of an element in a direction, over which that of the next one is written, and what was put so far.
+#[derive(Drop)]
+pub(crate) struct SpanLine {
+    pub(crate) at: DirectedElement,
+    pub(crate) vehicle: u8,
+    pub(crate) line: Vec<u8>,
+    /// How many bytes of the line come before its moments.
+    pub(crate) head: usize,
+    pub(crate) shown: ShownSpan,
+    pub(crate) progress: Progress,
+}
+
+impl<O: Output> SpanTaker<O> for SpanLine {
+    ghost use Rattle.gtd_schedule.specs.Handed.{IsReady, PutsSpan};
+
+    ghost is_ready = { λ output line spans. IsReady (O.failure_count output) line spans };
+
+    ghost takes = { λ output line span. λ then after whole.
+        PutsSpan (O.taken output) (O.failure_count output) line span (O.taken then) (O.failure_count then) after whole };
+
+    #[inline(always)]
+    fn take(&mut self, output: &mut O, span: Span) -> bool {
+        write_span(&mut self.line, self.head, &mut self.shown, span);
+        match put_whole(output, &mut self.progress, self.line.as_slice()) {
+            Ok(()) => true,
+            Err(_) => false,
+        }
+    }
 }
 
 // Puts a line for each span that a cursor hands out.
@@ -52,19 +83,24 @@ fn put_spans<O: Output>(
     ensures failures { O.failure_count output.new
         ≡ failures_after_stop result (O.failure_count output.old) }
 {
-    write_head(
-        &mut printer.line,
-        at.element,
-        at.direction,
-        lines.schedule.vehicle,
-    )?;
+    let vehicle = lines.schedule.vehicle;
+    write_head(&mut printer.line, at.element, at.direction, vehicle)?;
     let head = printer.line.len();
-    let mut shown = write_first_moments(&mut printer.line, &lines.first)?;
-    while let Some(span) = spans.next() {
-        write_span(&mut printer.line, head, &mut shown, span);
-        put_whole(output, &mut printer.progress, printer.line.as_slice())?;
-    }
-    Ok(())
+    let shown = write_first_moments(&mut printer.line, &lines.first)?;
+    let alloc = printer.alloc;
+    let mut line = SpanLine {
+        at,
+        vehicle,
+        line: replace(&mut printer.line, Vec::new(alloc)),
+        head,
+        shown,
+        progress: printer.progress,
+    };
+    let whole = spans.each(output, &mut line);
+    let SpanLine { line, progress, .. } = line;
+    printer.line = line;
+    printer.progress = progress;
+    if whole { Ok(()) } else { Err(Stop::Output) }
 }
 
 /// Puts the lines of an element in a direction. A cursor hands out the spans in which it is open.

@@ -1,5 +1,5 @@
 -- The cursor that begins again has the same whole list, which is all to come.
-use Rattle.std.proofs.Common.{◌≡◌, ◌∙◌, ap, sym}
+use Rattle.std.proofs.Common.{◌∙◌, ap, sym}
 use Rattle.std.specs.Prelude.{List}
 use Rattle.gtd_core.specs.Seconds.{Interval}
 use Rattle.gtd_schedule.proofs.CursorFacts.{started_set, wholes_set}

@@ -1,5 +1,5 @@
 -- A cursor of an element is one of each that is closed alike.
-use Rattle.std.proofs.Common.{◌≡◌, ◌<◌, rules, subst, get_or, length, List}
+use Rattle.std.proofs.Common.{◌≡◌, ◌<◌, subst, get_or, length, List}
 use Rattle.gtd_schedule.proofs.CursorFacts.{of_known}
 use Rattle.gtd_schedule.specs.declared.cursors.OpenCursor.{OpenCursor}
 use Rattle.gtd_schedule.proofs.cursors.OpenCursors.is_shared.Goals as goal
