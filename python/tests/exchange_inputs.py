@@ -2,8 +2,12 @@
 
 import io
 import xml.etree.ElementTree as tree
+from calendar import isleap, monthrange
+from collections import Counter
 from datetime import datetime, timedelta
 from typing import Dict, List, NamedTuple, Optional, Tuple
+
+from dateutil.rrule import rrulestr
 
 from gtd import datex
 from tests import model_spans as spans
@@ -29,15 +33,26 @@ class Period(NamedTuple):
 
 
 def texts_of(node, name):
-    return [child.text for child in node if child.tag.endswith("}" + name)]
+    return [child.text.strip() for child in node if child.tag.endswith("}" + name)]
 
 
 def moment_in(node, name):
-    return next(map(datetime.fromisoformat, texts_of(node, name)), None)
+    return next(map(moment_of, texts_of(node, name)), None)
+
+
+def moment_of(text):
+    """A moment, whose clock time may be the end of the day."""
+    day, clock = text.split("T")
+    return datetime.fromisoformat(day) + timedelta(seconds=seconds_of(clock))
+
+
+def seconds_of(clock):
+    hour, minute, second = map(int, clock.split(":"))
+    return hour * 3600 + minute * 60 + second
 
 
 def period_of(node):
-    times = [tuple(child.text for child in one) for one in node if one.tag.endswith("}recurringTimePeriodOfDay")]
+    times = [tuple(child.text.strip() for child in one) for one in node if one.tag.endswith("}recurringTimePeriodOfDay")]
     dates = [
         {name: texts_of(one, name) for name in ("applicableDay", "applicableMonth", "applicableInstanceOfDayWithinMonth")}
         for one in node
@@ -78,7 +93,7 @@ def in_period(period, at, night):
 
 def reference(text, night, first, until):
     """The valid spans. Validity changes only at the clock times and moments that are written, and at midnight."""
-    specification = tree.fromstring(text).find(f".//{{{SPACE}}}validityTimeSpecification")
+    specification = next(node for node in tree.fromstring(text).iter() if node.tag.endswith("}validityTimeSpecification"))
     start, end = moment_in(specification, "overallStartTime"), moment_in(specification, "overallEndTime")
     names = ("validPeriod", "exceptionPeriod")
     valid, exceptions = ([period_of(node) for node in specification if node.tag.endswith("}" + name)] for name in names)
@@ -95,10 +110,10 @@ def reference(text, night, first, until):
 def marks_of(specification, first, until):
     """Each moment that is written, and each clock time on each day."""
     values = [node.text.strip() for node in specification.iter() if node.text]
-    clocks = {tuple(map(int, value.split(":"))) for value in values if ":" in value and "T" not in value} | {(0, 0, 0)}
+    clocks = {seconds_of(value) for value in values if ":" in value and "T" not in value} | {0}
     days = [first + timedelta(days=number) for number in range((until - first).days)]
-    marks = {day + timedelta(hours=clock[0], minutes=clock[1], seconds=clock[2]) for day in days for clock in clocks}
-    return marks | {first, until} | {datetime.fromisoformat(value) for value in values if "T" in value}
+    marks = {day + timedelta(seconds=clock) for day in days for clock in clocks}
+    return marks | {first, until} | {moment_of(value) for value in values if "T" in value}
 
 
 # Random specifications
@@ -194,6 +209,49 @@ def random_rule(maker, start):
         parts.append(f"UNTIL={start + timedelta(days=maker.randint(0, 900)):%Y%m%dT%H%M%S}")
     maker.shuffle(parts)
     return ";".join(parts)
+
+
+def may_have_instances(text, near):
+    """Whether some day within eight years meets the parts of a rule."""
+    parts = dict(part.split("=") for part in text.split(";"))
+    wanted = abs(int(parts.get("BYSETPOS", "1")))
+    met = Counter()
+    for number in range(3000):
+        day = near + timedelta(days=number)
+        period = {"YEARLY": day.year - near.year, "MONTHLY": (day.year - near.year) * 12 + day.month - near.month}
+        at = period.get(parts["FREQ"], 0)
+        if at % int(parts.get("INTERVAL", "1")) == 0 and _meets(parts, day):
+            met[at] += 1
+            if met[at] >= wanted:
+                return True
+    return False
+
+
+def _meets(parts, day):
+    length, of_year = monthrange(day.year, day.month)[1], day.timetuple().tm_yday
+    days_of_year = 365 + isleap(day.year)
+    for name, here in (
+        ("BYMONTH", {day.month}),
+        ("BYMONTHDAY", {day.day, day.day - length - 1}),
+        ("BYYEARDAY", {of_year, of_year - days_of_year - 1}),
+    ):
+        if name in parts and not here & set(map(int, parts[name].split(","))):
+            return False
+    in_month = parts["FREQ"] == "MONTHLY" or "BYMONTH" in parts
+    at, last = (day.day, length) if in_month else (of_year, days_of_year)
+    name = DAYS[day.weekday()]
+    here = {name, f"{(at - 1) // 7 + 1}{name}", f"-{(last - at) // 7 + 1}{name}"}
+    return "BYDAY" not in parts or bool(here & set(parts["BYDAY"].split(",")))
+
+
+def first_instance(text, near):
+    """The first instance of a rule from a moment on, if its series can begin there; else None."""
+    if not may_have_instances(text, near):
+        return None  # dateutil would look for one up to the year 9999
+    start = next(iter(rrulestr(text, dtstart=near).xafter(near, count=1, inc=True)), None)
+    if start is None or start.year > 2032 or next(iter(rrulestr(text, dtstart=start)), None) != start:
+        return None
+    return start
 
 
 def event(*lines):

@@ -67,10 +67,11 @@ def without(left, right, first, until):
 def of_basic(start, duration, first, until):
     """The spans of a basic domain, day by day."""
     low, high = first // DAY - model.bound(duration) // DAY - 2, until // DAY
-    years = [int(field[1:]) for field in start if field[0] == "y"]
-    if years:
-        low = max(low, second(datetime(years[0], 1, 1)) // DAY - 7)
-        high = min(high, second(datetime(years[0], 12, 31)) // DAY + 7)
+    given = {field[0]: int(field[1:]) for field in start}
+    if "y" in given and "w" not in given:  # other days are not looked at
+        begin = datetime(given["y"], given.get("M", 1), 1)
+        low = max(low, second(begin) // DAY - 1)
+        high = min(high, second(begin) // DAY + (32 if "M" in given else 367))
     clocks = model.clocks(start)
     # Which clock time it is makes no difference to the days, so that all share what is known of these.
     fields = (*(field for field in start if field[0] not in "hms"), *("h0" for field in start[-1:] if field[0] in "hms"))

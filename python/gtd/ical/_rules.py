@@ -26,6 +26,7 @@ _RANGES = {
     "BYSETPOS": (-366, 366),
 }
 _SINGLE = ("COUNT", "INTERVAL")
+_MOST_OF_MONTH, _MOST_OF_YEAR = 5, 53  # of a weekday
 _RuleDay = Tuple[int, int]  # which one of the month or year, or 0 for each; a weekday, Monday is 0
 
 
@@ -104,8 +105,10 @@ def _check_together(rule: Rule) -> None:
     is_monthly, is_yearly = rule.frequency == "MONTHLY", rule.frequency == "YEARLY"
     is_nth = [nth != 0 for nth, _ in rule.days]
     month_days = bool(rule.numbers_of("BYMONTHDAY"))
+    most_nth = _MOST_OF_MONTH if is_monthly or rule.numbers_of("BYMONTH") else _MOST_OF_YEAR
     is_refused = (
         (any(is_nth) and not is_monthly and not is_yearly)
+        or any(abs(nth) > most_nth for nth, _ in rule.days)
         or (any(is_nth) and not all(is_nth))
         or (bool(rule.numbers_of("BYYEARDAY")) and not is_yearly)
         or (month_days and rule.frequency == "WEEKLY")
@@ -131,7 +134,7 @@ def fields_of(rule: Rule, start: date) -> Optional[List[str]]:
         if not is_within_months or not is_one_month or month_days or len(days) != 1 or days[0][0]:
             return None
         days = [(nth, days[0][1]) for nth in rule.numbers_of("BYSETPOS")]
-    if any(nth and (not is_within_months or not 1 <= abs(nth) <= 5) for nth, _ in days):
+    if any(nth and (not is_within_months or not 1 <= abs(nth) <= _MOST_OF_MONTH) for nth, _ in days):
         return None
     if not month_days and not days:
         if rule.frequency == "WEEKLY":
