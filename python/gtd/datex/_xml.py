@@ -26,7 +26,7 @@ class XmlElement:
     Its name is the local one in the namespaces that are looked for, and otherwise ``{namespace}name``.
     """
 
-    __slots__ = ("name", "line", "attributes", "children", "text", "is_leaf", "is_cut")
+    __slots__ = ("name", "line", "attributes", "children", "text", "is_leaf", "is_cut", "is_found")
 
     def __init__(self, name: str, line: int, attributes: Dict[str, str]) -> None:
         self.name, self.line, self.attributes = name, line, attributes
@@ -35,6 +35,8 @@ class XmlElement:
         self.is_leaf = True
         self.is_cut = False
         """Whether some of what is in it was dropped, because there was too much."""
+        self.is_found = False
+        """Whether it has a child of the name that is looked for."""
 
     @property
     def value(self) -> str:
@@ -113,7 +115,7 @@ class _Reader:
         if len(opened) >= _DEEPEST:
             raise Fault("Xml", line=line, note=f"at most {_DEEPEST} levels of elements")
         local = self._names.get(name) or self._local_name(name)
-        opened.append(XmlElement(local, line, attributes or _NO_ATTRIBUTES))
+        opened.append(XmlElement(local, line, _NO_ATTRIBUTES if self._depth_inside else attributes))
         if local == self._name:
             self._depth_inside += 1
             self._kept_inside = 0
@@ -131,28 +133,25 @@ class _Reader:
             element.text += text
 
     def _end(self, _: str) -> None:
-        element = self._open.pop()
+        element, opened = self._open.pop(), self._open
         is_searched = element.name == self._name
         self._depth_inside -= is_searched
-        if element.children and any(child.name == self._name for child in element.children):
-            self.found.append(FoundElement(element, list(self._open)))
-            return
-        if not self._open:
-            return
-        around = self._open[-1]
-        if self._depth_inside or is_searched:
-            self._keep_inside(element, around)
-            return
-        element.children = []
-        if len(around.children) < _MOST_SIBLINGS:
-            around.children.append(element)
+        if element.is_found:
+            self.found.append(FoundElement(element, list(opened)))
+        elif is_searched:
+            if opened:
+                opened[-1].is_found = True
+                opened[-1].children.append(element)
+        elif self._depth_inside:
+            self._keep_inside(element, opened[-1])
+        elif opened and len(opened[-1].children) < _MOST_SIBLINGS:
+            element.children = []
+            opened[-1].children.append(element)
 
     def _keep_inside(self, element: XmlElement, around: XmlElement) -> None:
-        """Keep the searched element, or one in it."""
+        """Keep an element of a searched one, as long as there are not too many."""
         self._kept_inside += 1
-        element.attributes = _NO_ATTRIBUTES
-        if element.name == self._name or self._kept_inside <= _MOST_INSIDE:
+        if self._kept_inside <= _MOST_INSIDE:
             around.children.append(element)
-            around.is_cut = around.is_cut or (element.is_cut and element.name != self._name)
-        else:
+        if self._kept_inside > _MOST_INSIDE or element.is_cut:
             around.is_cut = True
