@@ -18,7 +18,8 @@ export RT_JOBS=${RT_JOBS:-$(tests/jobs.sh)}
 needed=(gcc g++ ld cargo valgrind pkg-config python3 mandoc zsh openssl mount osmium chromium rsvg-convert xmllint pngtopnm
     make sqlite3 ogr2ogr pg_config)
 [ "$(id -u)" = 0 ] || needed+=(fakeroot)
-modules='build, cryptography, dask.dataframe, distributed, fiona, geopandas, mypy, osmium, pandas, pytest, setuptools, venv, wheel'
+modules='build, cryptography, dask.dataframe, dateutil, distributed, fiona, geopandas, gi, icalendar, mypy, osmium, pandas'
+modules+=', pytest, recurring_ical_events, setuptools, venv, wheel; gi.require_version("ICalGLib", "3.0")'
 
 # missing: what is not there, a line for each.
 missing() {

@@ -4,7 +4,7 @@
 # It needs Debian's Python packages, and calls tests/setup.sh if one is missing. The tests mount a small disk: if this is not run
 # as root, they run as root of their own namespace.
 #
-# Three groups of tests run side by side, since they mostly wait for processes to start.
+# Four groups of tests run side by side, since they mostly wait for processes to start.
 set -u
 top=$(cd "$(dirname "$0")/.." && pwd)
 export GTD=${GTD:-$top/crates/gtd/out/gtd} GTDESK=${GTDESK:-$top/crates/gtdesk/out/gtdesk}
@@ -14,7 +14,8 @@ for program in "$GTD" "$GTDESK"; do
 done
 [ -e "$LIBGTD" ] || "$top/bindings/build.sh" > /dev/null || { echo "no library at $LIBGTD" >&2; exit 1; }
 python=${PYTHON:-/usr/bin/python3}
-needed='import build, cryptography, dask.dataframe, distributed, fiona, geopandas, mypy, osmium, pandas, pytest, setuptools, venv, wheel'
+needed='import build, cryptography, dask.dataframe, dateutil, distributed, fiona, geopandas, gi, icalendar, mypy, osmium, pandas'
+needed+=', pytest, recurring_ical_events, setuptools, venv, wheel; gi.require_version("ICalGLib", "3.0")'
 { "$python" -c "$needed" && command -v openssl && command -v osmium; } > /dev/null 2>&1 ||
     "$top/tests/setup.sh" > /dev/null || {
     echo "Python's packages are missing, and tests/setup.sh failed" >&2
@@ -103,12 +104,24 @@ end
     succeeds 'the installed command' "${alone[@]}" "$room/copy/venv/bin/gtd-country" "$top/examples/town.csv" \
         --from 2024-03-15 --to 2024-03-18 --vehicle 11 --workers 1 --join --out town.csv
     succeeds 'what it has written' cmp town.csv "$top/examples/town.schedule.csv"
+    succeeds 'the installed command of DATEX II' "${alone[@]}" "$room/copy/venv/bin/gtd-datex" read \
+        "$top/examples/exchange/roadworks.xml" --places "$top/examples/exchange/roadworks.places.csv" --zone Europe/Vienna \
+        --night begins --out roadworks.csv
+    succeeds 'the records that it has written' cmp roadworks.csv "$top/examples/exchange/roadworks.csv"
+    succeeds 'the installed command of calendars' "${alone[@]}" "$room/copy/venv/bin/gtd-ical" write \
+        "$top/examples/exchange/market.csv" --vehicle 11 --from 2025-03-01 --to 2025-07-01 --zone Europe/Vienna \
+        --names "$top/examples/exchange/names.csv" --title 'Market Street' --host example.org --stamp 20250201T080000Z \
+        --out closures.ics
+    succeeds 'the calendar that it has written' cmp closures.ics "$top/examples/exchange/closures.ics"
 }
 
 start failures tests/test_failures.py
 failures=$!
 start country tests/test_country.py tests/test_cluster.py tests/test_diff.py tests/test_large.py tests/test_documents.py tests/test_osm.py
 country=$!
+start exchange tests/test_datex.py tests/test_ical.py tests/test_exchange_rows.py tests/test_exchange_faults.py \
+    tests/test_exchange_commands.py
+exchange=$!
 start package tests/test_domain.py tests/test_records.py tests/test_series.py tests/test_roads.py tests/test_blocks.py \
     tests/test_asked_domain.py tests/test_asked_records.py tests/test_planner.py tests/test_same.py
 package=$!
@@ -120,6 +133,7 @@ install_wheel
 use_wheel
 end failures $failures
 end country $country
+end exchange $exchange
 end package $package
 echo "python: $passed passed, $failed failed"
 [ "$failed" = 0 ]

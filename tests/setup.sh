@@ -11,6 +11,10 @@
 #                    what the Python package needs; tests/python.sh, bench/country.py
 #   python3-pyosmium, osmium-tool
 #                    what reads extracts of OpenStreetMap; tests/python.sh makes some
+#   python3-dateutil, tzdata
+#                    what gtd.ical needs besides, and the time zones; python3-pandas brings the first
+#   python3-icalendar, python3-recurring-ical-events, gir1.2-ical-3.0, python3-gi
+#                    other readers of calendars, with which tests/python.sh compares gtd.ical
 #   python3-pytest, mypy, python3-build, python3-setuptools, python3-wheel, python3-venv
 #                    tests/python.sh tests the package, its types, and its wheel in a fresh environment
 #   openssl, mount   tests/python.sh makes certificates, and a small disk
@@ -23,6 +27,7 @@
 set -eu
 packages=(gcc libc6-dev g++ binutils cargo valgrind pkgconf python3 mandoc zsh fakeroot
     python3-pandas python3-geopandas python3-dask python3-distributed python3-cryptography python3-pyosmium osmium-tool
+    python3-dateutil tzdata python3-icalendar python3-recurring-ical-events gir1.2-ical-3.0 python3-gi
     python3-pytest mypy python3-build python3-setuptools python3-wheel python3-venv openssl mount
     chromium librsvg2-bin libxml2-utils netpbm fonts-dejavu-core
     make sqlite3 libsqlite3-dev gdal-bin postgresql-15 postgresql-server-dev-15)

@@ -13,7 +13,8 @@ True
 
 :class:`gtd.Domain` is one domain and :class:`gtd.Records` the records of one file; a column of domains has the accessor
 ``gtd``: see :class:`gtd.Domains`. For record sets that are too large for one file, see
-:mod:`gtd.country`; for extracts of OpenStreetMap, :mod:`gtd.osm`.
+:mod:`gtd.country`; for extracts of OpenStreetMap, :mod:`gtd.osm`; for situations of DATEX II, :mod:`gtd.datex`; for calendars,
+:mod:`gtd.ical`.
 """
 
 from gtd._diff import diff

@@ -19,7 +19,7 @@ class Fault(ValueError):
     kind : str
         As in the program's line: ``'FieldRange'``, ``'moment Range'``, ``'horizon Empty'``, ``'Header'``,
         ``'Direction'``, ``'Domain FieldRange'``; of opening hours ``'hours Unsupported'``. docs/COMMANDS.md, docs/LANGUAGE.md,
-        docs/FILES.md and docs/HOURS.md list them all.
+        docs/FILES.md, docs/HOURS.md, docs/DATEX.md and docs/ICAL.md list them all.
     place : int or None
         For a time domain: the number of bytes of the domain's text before the fault.
     row : int or None
@@ -29,9 +29,10 @@ class Fault(ValueError):
     caret : int or None
         The place, counted in characters of ``text``.
     file, line : str and int, or None
-        For the rows of :mod:`gtd.country`: the file as it was named, and the line in it, from 1.
+        For the rows of :mod:`gtd.country`, and what :mod:`gtd.datex` and :mod:`gtd.ical` read: the file as it was named, if it
+        was, and the line in it, from 1.
     note : str or None
-        Anything else there is to say.
+        Anything else there is to say, such as what is accepted there.
     """
 
     def __init__(

@@ -98,6 +98,8 @@ def _texts_of(events: Sequence[CalendarEvent], choices: Choices) -> _Texts:
     if len(masters) != 1:
         line = masters[1].line if masters else events[0].line
         raise Fault("Repeated", line=line, note="one event without RECURRENCE-ID")
+    if not masters[0].is_cancelled:
+        parse_time(masters[0].start, masters[0].start.value, choices)  # first, for its fault
     changed = [event for event in events if event is not masters[0]]
     removed = _times_in(masters[0], "EXDATE", choices) + _changed_instances(changed, masters[0], choices)
     texts, listed_until = _master_texts(masters[0], frozenset(removed), choices)
