@@ -1,7 +1,9 @@
 #!/usr/bin/env bash
 # The examples, byte for byte: each command shown in the documents against the lines under it, and each command of the table
 # in examples/README.md against the file it names. Commands run in examples/, and those of docs/TUTORIAL.md one after another in a
-# folder of their own. Run it after `rt ci`, which builds the programs; GTD and GTDESK in the environment name others.
+# folder of their own, as do those of docs/DATEX.md and docs/ICAL.md, beside the files of examples/exchange. These call the Python
+# package (tests/python.sh says what it needs). Run it after `rt ci`, which builds the programs; GTD and GTDESK in the environment
+# name others, and PYTHON another Python.
 set -u
 top=$(cd "$(dirname "$0")/.." && pwd)
 programs=("${GTD:-$top/crates/gtd/out/gtd}" "${GTDESK:-$top/crates/gtdesk/out/gtdesk}")
@@ -17,6 +19,10 @@ passed=0 failed=0
 mkdir "$room/bin" "$room/tutorial"
 ln -s "$(realpath "${programs[0]}")" "$room/bin/gtd"
 ln -s "$(realpath "${programs[1]}")" "$room/bin/gtdesk"
+printf '#!/bin/sh\nexec "%s" "$@"\n' "${PYTHON:-/usr/bin/python3}" > "$room/bin/python3"
+chmod +x "$room/bin/python3"
+export GTD=$room/bin/gtd GTDESK=$room/bin/gtdesk PYTHONPATH=$top/python PYTHONDONTWRITEBYTECODE=1
+cp -r exchange "$room/exchange"
 folder=$top/examples
 
 # compare WHERE COMMAND FILE: what the command writes, its faults included, is exactly the file.
@@ -70,12 +76,16 @@ document() {
         esac
     done < "$top/$1"
     [ -n "$command" ] && compare "$1:$at" "$command" "$room/expected"
-    case $1 in README.md | docs/TUTORIAL.md | docs/COMMANDS.md | docs/LANGUAGE.md | docs/FILES.md) must_show "$1" $shown ;; esac
+    case ${1#docs/} in README.md | TUTORIAL.md | COMMANDS.md | LANGUAGE.md | FILES.md | DATEX.md | ICAL.md) must_show "$1" $shown ;; esac
 }
 
 document README.md
 for path in "$top"/CONTRIBUTING.md "$top"/docs/*.md "$top"/crates/*/README.md; do
-    case $path in */TUTORIAL.md) folder=$room/tutorial ;; *) folder=$top/examples ;; esac
+    case $path in
+        */TUTORIAL.md) folder=$room/tutorial ;;
+        */DATEX.md | */ICAL.md) folder=$room/exchange ;;
+        *) folder=$top/examples ;;
+    esac
     document "${path#"$top/"}"
 done
 folder=$top/examples

@@ -188,9 +188,9 @@ def _recurring_texts(series: _Series, choices: Choices) -> _Texts:
     if row is not None:
         return [row], None
     if series.last is None and choices.until is None:
-        note = "a rule that a time domain expresses, one with UNTIL or COUNT, or a day before which its dates are listed"
+        note = "a rule with UNTIL or COUNT, or a day before which its dates are listed"
         if fields is not None:
-            note = "fewer EXDATEs, of instances that overlap no other; or UNTIL, COUNT, or a day before which dates are listed"
+            note = f"fewer EXDATEs, of instances that overlap no other; or {note}"
         raise Fault("Rule" if fields is None else "TooMany", line=series.rule.line, note=note)
     return _by_dates(series, choices.until)
 
