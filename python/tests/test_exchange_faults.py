@@ -115,7 +115,10 @@ def test_damaged_calendars():
     assert compared > ROUNDS // 8
 
 
-@pytest.mark.parametrize("value", ["20250229T050000", "2025-03-01T05:00:00", "20250301T0500", "20250301 050000", "20250301T050000X"])
+MISTAKES = ["20250229T050000", "2025-03-01T05:00:00", "20250301T0500", "20250301 050000", "20250301T050000X"]
+
+
+@pytest.mark.parametrize("value", MISTAKES)
 def test_moments_with_a_mistake(value):
     (found,) = ical.closures(event("UID:a", f"DTSTART:{value}", "DURATION:PT1H"))
     assert found.fault is not None and (found.fault.kind, found.fault.line) == ("Value", 4)
