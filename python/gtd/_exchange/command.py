@@ -16,7 +16,7 @@ from gtd._staging import Staging
 Work = Callable[[argparse.Namespace], int]
 
 
-def tell_fault(file: str, fault: Fault, name: str = "") -> int:
+def print_fault(file: str, fault: Fault, name: str = "") -> int:
     """Print a line ``FILE:LINE: ID: KIND: what is accepted there`` on standard error, and return the status of a refusal.
 
     Parameters
@@ -28,9 +28,8 @@ def tell_fault(file: str, fault: Fault, name: str = "") -> int:
     """
     where = fault.file or file
     where += "" if fault.line is None else f":{fault.line}"
-    said = [where, *([name] if name else []), fault.kind, *([fault.note] if fault.note else [])]
-    print(": ".join("".join(sign if sign.isprintable() else "\N{REPLACEMENT CHARACTER}" for sign in part) for part in said),
-          file=sys.stderr)
+    said = ": ".join(part for part in (where, name, fault.kind, fault.note) if part)
+    print("".join(sign if sign.isprintable() else "\N{REPLACEMENT CHARACTER}" for sign in said), file=sys.stderr)
     return 1
 
 
@@ -47,13 +46,13 @@ def keep_closures(given: argparse.Namespace, found: Sequence[Any], places: Optio
     status = 0
     for one in found:
         if one.fault is not None:
-            status = tell_fault(given.input, one.fault, one.id)
+            status = print_fault(given.input, one.fault, one.id)
     names = {one.id for one in found}
     for name, first in (() if places is None else places.items()):
         if name not in names:
-            status = tell_fault(given.places, Fault("NotFound", line=first[0].line, note=f"an id of {given.input}"), name)
+            status = print_fault(given.places, Fault("NotFound", line=first[0].line, note=f"an id of {given.input}"), name)
     if not found and status == 0:
-        status = tell_fault(given.input, Fault("NotFound", line=1, note="a file that says when something holds"))
+        status = print_fault(given.input, Fault("NotFound", line=1, note="a file that says when something holds"))
     if status == 0:
         closures = [Closure(one.id, one.domains) for one in found]
         data = write_domains(closures) if places is None else write_records(closures, places, given.places)
@@ -125,7 +124,7 @@ def done(given: argparse.Namespace) -> int:
     except Fault as fault:
         if fault.text is not None or (fault.line is None and fault.file is None):
             raise  # of the library, which shows the text
-        return tell_fault(getattr(given, "input", None) or "", fault)
+        return print_fault(getattr(given, "input", None) or "", fault)
 
 
 def zone(word: str) -> ZoneInfo:

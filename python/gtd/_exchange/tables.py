@@ -96,7 +96,7 @@ def _rows(data: bytes, header: Sequence[str], file: str) -> Iterator[Tuple[int, 
 def write_records(closures: Iterable[Closure], places: Dict[str, List[ClosedPlace]], file: str) -> bytes:
     """A record file of version 2: for each closure and each of its places a row for each of its domains.
 
-    The library reads the file before it is handed on, so that a place that no record file can have is found here.
+    The library reads the result, so that a place that no record file can have is found here.
 
     Parameters
     ----------

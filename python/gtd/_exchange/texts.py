@@ -61,7 +61,7 @@ def basic(days: str, begin: int, seconds: int) -> DomainText:
 
 
 def _clock_fields(second: int, needs_hour: bool) -> str:
-    """The fields of a clock time. Trailing zeros are left out, and so is the hour of midnight behind a day."""
+    """The fields of a clock time. Trailing zeros are left out, and so is the hour of midnight after a day."""
     fields = [f"h{second // 3600}", f"m{second // 60 % 60}", f"s{second % 60}"]
     while len(fields) > needs_hour and int(fields[-1][1:]) == 0:
         fields.pop()

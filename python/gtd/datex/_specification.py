@@ -133,7 +133,7 @@ def _rows(
 
 
 def _check_beside(element: XmlElement, has_periods: bool, has_end: bool) -> None:
-    """Refuse what stands beside the specification and says something else."""
+    """Refuse an element beside the specification that contradicts it."""
     if all(child.name != _STATUS for child in element.children):
         raise Fault("Missing", line=element.line, note=f"{_STATUS} in {element.name}")
     seen = set()

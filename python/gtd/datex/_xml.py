@@ -73,7 +73,7 @@ def find_parents(file: BinaryIO, name: str, namespace: str) -> Iterator[FoundEle
     Raises
     ------
     Fault
-        ``'Xml'``, ``'Doctype'``, with the line. Elements before it may have been handed out.
+        ``'Xml'``, ``'Doctype'``, with the line. Elements before it may have been yielded.
     """
     reader = _Reader(name, namespace)
     try:

@@ -17,8 +17,8 @@ from gtd._exchange.command import (
     done,
     keep_closures,
     places_of,
+    print_fault,
     read_table,
-    tell_fault,
     write_new,
     zone,
 )
@@ -78,7 +78,7 @@ def _read(given: argparse.Namespace) -> int:
     for one in found:
         if status == 0 and one.listed_until is not None:
             note = f"dates before {one.listed_until} alone, since no time domain expresses the rule"
-            tell_fault(given.input, Fault("Listed", line=one.line, note=note), one.id)
+            print_fault(given.input, Fault("Listed", line=one.line, note=note), one.id)
     return status
 
 
