@@ -1,7 +1,9 @@
 -- Kept spans beside what a tree still has to hand out, at each step: for `KeptPeriod`.
-use Rattle.std.proofs.Common.{◌≡◌, ◌∙◌, ◌⊎◌, inl, inr, sym, ap, subst, refl, List, [], ◌∷◌, ◌++◌, append_assoc, Option, Some, None}
+use Rattle.std.proofs.Common.{◌≡◌, ◌∙◌, ◌⊎◌, inl, inr, sym, ap, subst, List, [], ◌∷◌, ◌++◌, append_assoc, Option}
+use Rattle.std.specs.Prelude.{ℤ, MatchOption}
 use Rattle.gtd_core.specs.Seconds.{Interval}
 use Rattle.gtd_spans.specs.Normal.{IsNormal}
+use Rattle.gtd_spans.specs.Skipping.{LeavesOut}
 use Rattle.gtd_spans.specs.Sweeping.{Takes}
 use Rattle.gtd_kept.proofs.RepeatLemmas.{come-all}
 use Rattle.gtd_kept.specs.Kept.{FitsTree, HasKept, CanBeginAgain, IsLapEnded, rest_of, whole_of}
@@ -58,6 +60,17 @@ pub takes-turned : (old mid new : Repeat) (xs : List Interval) (o : Option Inter
     → Takes (rest_of old xs) o (rest_of new xs)
 takes-turned old mid new xs o over stage ended takes =
     rw (over, ← stage, rest-over new xs ended) takes
+
+-- the list where a kept span is handed out, or none
+pub within-turned : (old new : Repeat) (xs : List Interval) (o : Option Interval) → IsLapEnded old → IsLapEnded new
+    → MatchOption o (to_come new.stage xs ≡ to_come old.stage xs) (λ x. to_come old.stage xs ≡ x ∷ to_come new.stage xs)
+    → MatchOption o (rest_of new xs ≡ rest_of old xs) (λ x. rest_of old xs ≡ x ∷ rest_of new xs)
+within-turned old new xs o before after takes = rw (rest-over old xs before, rest-over new xs after) takes
+
+-- the list where kept spans are left out
+pub leaves-turned : (old new : Repeat) (xs : List Interval) (b : ℤ) → IsLapEnded old → IsLapEnded new
+    → LeavesOut b (to_come old.stage xs) (to_come new.stage xs) → LeavesOut b (rest_of old xs) (rest_of new xs)
+leaves-turned old new xs b before after leaves = rw (rest-over old xs before, rest-over new xs after) leaves
 
 -- a span that is learnt
 pub fits-learnt : (old new : Repeat) (xs ws : List Interval) (x : Interval) → FitsTree old (x ∷ xs) ws

@@ -6,6 +6,8 @@ pub mod FitLemmas
 pub mod Leaves
 pub mod OnwardFacts
 pub mod PeriodChanges
+pub mod SkipLengths
 pub mod StayDays
 pub mod StayEnds
 pub mod Unions
+pub mod WithinFacts

@@ -17,6 +17,7 @@ pub mod Shape
 pub mod Single
 pub mod Stays
 pub mod Taking
+pub mod Within
 pub mod Weekly
 pub mod facts
 pub use Rattle.gtd_core.specs.Seconds

@@ -1,10 +1,11 @@
 //! The cursor of a domain, whose tree stands on the runs of basic domains.
 
 use crate::leaf::Leaf;
+use crate::taker::SpanTaker;
 use crate::tree::SweepTree;
-use gtd_core::{Expr, Horizon, Span};
+use gtd_core::{Expr, Horizon, Sec, Span};
 use gtd_recur::Runs;
-use gtd_spans::SpanSource;
+use gtd_spans::{Bounds, SpanSource};
 use std::alloc::{AllocError, Global};
 
 /// A source of the seconds of a domain in a horizon, of those of any of several cursors, or of those that a cursor leaves
@@ -41,6 +42,21 @@ impl Leaf for Runs {
     #[inline(always)]
     fn next_span(&mut self) -> Option<Span> {
         self.next()
+    }
+
+    // Nothing is left out: the runs go on one by one.
+    #[inline(always)]
+    fn skip_to(&mut self, _second: Sec) {}
+
+    // None is handed on: runs are found one by one.
+    #[inline(always)]
+    fn each_within<E, T: SpanTaker<E>>(
+        &mut self,
+        _bounds: Bounds,
+        _into: &mut E,
+        _taker: &mut T,
+    ) -> bool {
+        true
     }
 
     fn begin_again(&mut self) {

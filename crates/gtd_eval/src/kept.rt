@@ -9,11 +9,12 @@ use crate::cursor::Cursor;
 use crate::leaf::Leaf;
 use crate::node::Node;
 use crate::period::period_of_all;
+use crate::taker::SpanTaker;
 use crate::tree::SweepTree;
-use gtd_core::{Expr, Horizon, Span};
+use gtd_core::{Expr, Horizon, Sec, Span};
 use gtd_kept::{Repeat, is_long, room_for};
 use gtd_recur::{Period, Runs};
-use gtd_spans::SpanSource;
+use gtd_spans::{Bounds, SpanSource};
 use std::alloc::{AllocError, Global};
 
 /// A cursor that repeats after a period, and its spans of a period: at most 4,096, and none if there would be more.
@@ -27,15 +28,18 @@ pub struct KeptPeriod {
 }
 
 impl KeptPeriod {
-    ghost use Rattle.std.specs.Prelude.{◌≡◌, ◌≤◌, [], IfOk};
+    ghost use Rattle.std.specs.Prelude.{◌≡◌, ◌≤◌, [], ◌∷◌, IfOk, IfSome, MatchOption};
     ghost use Rattle.gtd_core.specs.Limits.{most_basic_domains};
     ghost use Rattle.gtd_core.specs.Trees.{leaf_count, tree_of};
     ghost use Rattle.gtd_core.specs.Whole.{whole};
     ghost use Rattle.gtd_recur.specs.Periods.{period_seconds};
+    ghost use Rattle.gtd_spans.specs.Inside.{IsInside};
+    ghost use Rattle.gtd_spans.specs.Skipping.{LeavesOut};
     ghost use Rattle.gtd_spans.specs.Sweeping.{Takes};
     ghost use Rattle.gtd_eval.specs.Cursors.{cursor_list, cursor_size, cursor_whole, IsAtStart};
     ghost use Rattle.gtd_eval.specs.Exprs.{IsOfExpr};
-    ghost use Rattle.gtd_kept.specs.Kept.{FitsTree, rest_of};
+    ghost use Rattle.gtd_kept.specs.Kept.{FitsTree, IsLapEnded, rest_of};
+    ghost use Rattle.gtd_eval.specs.Within.{AreInside, IsReadyWithin, TakesWithin};
     ghost use Rattle.gtd_eval.specs.Keeping.{period_list, period_size, period_whole};
     ghost use Rattle.gtd_eval.specs.Periods.{AllRepeat};
     ghost use Rattle.gtd_kept.specs.Repeating.{AreKept, IsRepeating};
@@ -129,6 +133,66 @@ impl KeptPeriod {
         }
     }
 
+    // Leaves out the next spans that end by a second, where all of a period are kept and those before them were handed out.
+    #[inline(always)]
+    fn skip_to(_inner: &Cursor, again: &mut Repeat, second: Sec)
+        requires kept { FitsTree again.old (cursor_list _inner.now) (cursor_whole _inner.now) }
+        ensures kept { FitsTree again.new (cursor_list _inner.now) (cursor_whole _inner.now) }
+        ensures leaves { LeavesOut second.0 (rest_of again.old (cursor_list _inner.now))
+            (rest_of again.new (cursor_list _inner.now)) }
+        ensures room { again.new.room ≡ again.old.room }
+    {
+        if again.is_repeating() && again.is_lap_ended() {
+            again.skip_to(second);
+        }
+    }
+
+    // The next of the kept spans, if it lies inside of bounds.
+    #[inline(always)]
+    fn next_within(_inner: &Cursor, again: &mut Repeat, bounds: Bounds) -> Option<Span>
+        requires repeating { IsRepeating again.old.stage }
+        requires ended { IsLapEnded again.old }
+        requires kept { FitsTree again.old (cursor_list _inner.now) (cursor_whole _inner.now) }
+        ensures kept { FitsTree again.new (cursor_list _inner.now) (cursor_whole _inner.now) }
+        ensures takes { MatchOption result
+            (rest_of again.new (cursor_list _inner.now) ≡ rest_of again.old (cursor_list _inner.now))
+            (λ x. rest_of again.old (cursor_list _inner.now) ≡ x ∷ rest_of again.new (cursor_list _inner.now)) }
+        ensures inside { IfSome result (IsInside bounds) }
+        ensures repeating { IsRepeating again.new.stage }
+        ensures ended { IsLapEnded again.new }
+        ensures room { again.new.room ≡ again.old.room }
+    {
+        again.turn_within(bounds)
+    }
+
+    // Hands on kept spans as long as they lie inside of bounds, once all of a period are kept and those before them were handed
+    // out.
+    #[inline(always)]
+    fn each_kept<E, T: SpanTaker<E>>(
+        inner: &Cursor,
+        again: &mut Repeat,
+        bounds: Bounds,
+        into: &mut E,
+        taker: &mut T,
+    ) -> bool
+        requires kept { FitsTree again.old (cursor_list inner.now) (cursor_whole inner.now) }
+        requires ready { IsReadyWithin T.is_ready (AreInside bounds) (rest_of again.old (cursor_list inner.now)) into.old taker.old }
+        ensures kept { FitsTree again.new (cursor_list inner.now) (cursor_whole inner.now) }
+        ensures takes { TakesWithin T.is_ready T.takes (AreInside bounds) (rest_of again.old (cursor_list inner.now))
+            into.old taker.old (rest_of again.new (cursor_list inner.now)) into.new taker.new result }
+        ensures room { again.new.room ≡ again.old.room }
+    {
+        if !again.is_repeating() || !again.is_lap_ended() {
+            return true;
+        }
+        while let Some(x) = KeptPeriod::next_within(inner, again, bounds) {
+            if !taker.take(into, x) {
+                return false;
+            }
+        }
+        true
+    }
+
     // Begins again with the first span. Kept spans are kept on; if not all of a period are, none will be.
     fn begin_again(inner: &mut Cursor, again: &mut Repeat)
         requires kept { FitsTree again.old (cursor_list inner.old) (cursor_whole inner.old) }
@@ -196,6 +260,33 @@ impl Leaf for Part {
         match self {
             Part::Basic(runs) => runs.next(),
             Part::Repeating(kept) => KeptPeriod::next_kept(&mut kept.inner, &mut kept.again),
+        }
+    }
+
+    #[inline(always)]
+    fn skip_to(&mut self, second: Sec) {
+        match self {
+            Part::Basic(_) => {}
+            Part::Repeating(kept) => KeptPeriod::skip_to(&kept.inner, &mut kept.again, second),
+        }
+    }
+
+    #[inline(always)]
+    fn each_within<E, T: SpanTaker<E>>(
+        &mut self,
+        bounds: Bounds,
+        into: &mut E,
+        taker: &mut T,
+    ) -> bool {
+        match self {
+            Part::Basic(_) => true,
+            Part::Repeating(kept) => KeptPeriod::each_kept(
+                &kept.inner,
+                &mut kept.again,
+                bounds,
+                into,
+                taker,
+            ),
         }
     }
 

@@ -5,11 +5,15 @@ ghost use Rattle.gtd_core.specs.Limits.{most_basic_domains};
 ghost use Rattle.gtd_core.specs.Seconds.{Interval};
 ghost use Rattle.gtd_core.specs.Trees.{leaf_count, tree_of};
 ghost use Rattle.gtd_spans.specs.Normal.{IsNormal};
+ghost use Rattle.gtd_spans.specs.Skipping.{LeavesOut};
 ghost use Rattle.gtd_spans.specs.Sweeping.{Takes};
 ghost use Rattle.gtd_eval.specs.Exprs.{IsBasic, IsOfExpr};
 ghost use Rattle.gtd_eval.specs.Shape.{Size};
+ghost use Rattle.gtd_eval.specs.Within.{AreInside, IsReadyWithin, TakesWithin};
 
-use gtd_core::{Expr, Horizon, Span};
+use crate::taker::SpanTaker;
+use gtd_core::{Expr, Horizon, Sec, Span};
+use gtd_spans::Bounds;
 use std::alloc::{AllocError, Global};
 
 /// A leaf of a tree of sweeps: it hands out the spans of a basic domain, or of a larger expression.
@@ -44,6 +48,26 @@ pub trait Leaf: Drop {
     /// Takes the first span off the list that is still to come.
     fn next_span(&mut self) -> Option<Span>
         ensures takes { Takes (leaf_list self.old) result (leaf_list self.new) }
+        ensures size { leaf_size self.new ≡ leaf_size self.old }
+        ensures whole { leaf_whole self.new ≡ leaf_whole self.old };
+
+    /// May leave out first spans that end by a second.
+    fn skip_to(&mut self, second: Sec)
+        ensures leaves { LeavesOut second.0 (leaf_list self.old) (leaf_list self.new) }
+        ensures size { leaf_size self.new ≡ leaf_size self.old }
+        ensures whole { leaf_whole self.new ≡ leaf_whole self.old };
+
+    /// Hands first spans that lie inside of bounds to a taker, each as it is found. There may be more of them. Answers whether the
+    /// taker asks for more. It must be ready for each list that begins with such spans.
+    fn each_within<E, T: SpanTaker<E>>(
+        &mut self,
+        bounds: Bounds,
+        into: &mut E,
+        taker: &mut T,
+    ) -> bool
+        requires ready { IsReadyWithin T.is_ready (AreInside bounds) (leaf_list self.old) into.old taker.old }
+        ensures takes { TakesWithin T.is_ready T.takes (AreInside bounds) (leaf_list self.old) into.old taker.old
+            (leaf_list self.new) into.new taker.new result }
         ensures size { leaf_size self.new ≡ leaf_size self.old }
         ensures whole { leaf_whole self.new ≡ leaf_whole self.old };
 

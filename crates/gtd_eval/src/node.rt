@@ -1,8 +1,8 @@
 //! Trees of sweeps, which hand out spans one after another.
 
-ghost use Rattle.std.specs.Prelude.{◌≡◌, []};
+ghost use Rattle.std.specs.Prelude.{◌≡◌, ◌≤◌, [], length};
 ghost use Rattle.gtd_core.specs.Limits.{most_nodes};
-ghost use Rattle.gtd_spans.specs.Sweeping.{still, Fits, HasOneSide, Takes};
+ghost use Rattle.gtd_spans.specs.Sweeping.{still, AwaitsLeft, AwaitsRight, Fits, HasOneSide, Takes};
 ghost use Rattle.gtd_eval.specs.Nodes.{node_list, node_shape, node_whole, IsSoundNode};
 
 use crate::leaf::Leaf;
@@ -143,6 +143,48 @@ fn next_of_one<L: Leaf>(sweep: &mut Sweep, inner: &mut Node<L>) -> Option<Span>
     }
 }
 
+// Leaves out spans of the left side, which is asked next, on which nothing depends.
+#[inline(always)]
+pub(crate) fn skip_left<L: Leaf>(sweep: &Sweep, left: &mut Node<L>, _right: &Node<L>)
+    requires sound { IsSoundNode L.Leaf left.old }
+    requires awaits { AwaitsLeft sweep.now }
+    requires fits { Fits sweep.now (node_list L.Leaf left.old) (node_list L.Leaf _right.now) }
+    ensures sound { IsSoundNode L.Leaf left.new }
+    ensures fits { Fits sweep.now (node_list L.Leaf left.new) (node_list L.Leaf _right.now) }
+    ensures same { still sweep.now (node_list L.Leaf left.old) (node_list L.Leaf _right.now)
+        ≡ still sweep.now (node_list L.Leaf left.new) (node_list L.Leaf _right.now) }
+    ensures fewer { length (node_list L.Leaf left.new) ≤ length (node_list L.Leaf left.old) }
+    ensures shape { node_shape L.Leaf left.new ≡ node_shape L.Leaf left.old }
+    ensures whole { node_whole L.Leaf left.new ≡ node_whole L.Leaf left.old }
+{
+    if let Node::Leaf(leaf) = left {
+        if let Some(second) = sweep.needs_left_from() {
+            leaf.skip_to(second);
+        }
+    }
+}
+
+// The same for the right side.
+#[inline(always)]
+pub(crate) fn skip_right<L: Leaf>(sweep: &Sweep, _left: &Node<L>, right: &mut Node<L>)
+    requires sound { IsSoundNode L.Leaf right.old }
+    requires awaits { AwaitsRight sweep.now }
+    requires fits { Fits sweep.now (node_list L.Leaf _left.now) (node_list L.Leaf right.old) }
+    ensures sound { IsSoundNode L.Leaf right.new }
+    ensures fits { Fits sweep.now (node_list L.Leaf _left.now) (node_list L.Leaf right.new) }
+    ensures same { still sweep.now (node_list L.Leaf _left.now) (node_list L.Leaf right.old)
+        ≡ still sweep.now (node_list L.Leaf _left.now) (node_list L.Leaf right.new) }
+    ensures fewer { length (node_list L.Leaf right.new) ≤ length (node_list L.Leaf right.old) }
+    ensures shape { node_shape L.Leaf right.new ≡ node_shape L.Leaf right.old }
+    ensures whole { node_whole L.Leaf right.new ≡ node_whole L.Leaf right.old }
+{
+    if let Node::Leaf(leaf) = right {
+        if let Some(second) = sweep.needs_right_from() {
+            leaf.skip_to(second);
+        }
+    }
+}
+
 // The next span of a sweep over two nodes.
 #[cycle(next)]
 #[inline(never)]
@@ -163,6 +205,7 @@ fn next_of_two<L: Leaf>(sweep: &mut Sweep, left: &mut Node<L>, right: &mut Node<
     loop {
         match sweep.step() {
             Ask::Left => {
+                skip_left(sweep, left, right);
                 let Some(x) = left.next() else {
                     sweep.tell(None);
                     continue;
@@ -173,6 +216,7 @@ fn next_of_two<L: Leaf>(sweep: &mut Sweep, left: &mut Node<L>, right: &mut Node<
                 sweep.tell(Some(x));
             }
             Ask::Right => {
+                skip_right(sweep, left, right);
                 let Some(x) = right.next() else {
                     sweep.tell(None);
                     continue;

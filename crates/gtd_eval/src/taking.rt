@@ -6,13 +6,48 @@ ghost use Rattle.gtd_eval.specs.Nodes.{node_list, node_shape, node_whole, IsSoun
 ghost use Rattle.gtd_eval.specs.Taking.{HandsOn, TakesSome};
 
 use crate::leaf::Leaf;
-use crate::node::Node;
+use crate::node::{Node, skip_left, skip_right};
 use crate::taker::SpanTaker;
 use crate::tree::SweepTree;
-use gtd_spans::{Ask, Sweep};
+use gtd_spans::{Ask, Bounds, Sweep};
+
+// Hands on first spans of the left side of a sweep, which asks for them, that are the next ones of the result as they are, if the
+// side is a leaf and hands them on in a loop.
+#[inline(always)]
+fn each_given_left<L: Leaf, E, T: SpanTaker<E>>(
+    sweep: &Sweep,
+    left: &mut Node<L>,
+    _right: &Node<L>,
+    into: &mut E,
+    taker: &mut T,
+) -> bool
+    requires sound { IsSoundNode L.Leaf left.old }
+    requires awaits { AwaitsLeft sweep.now }
+    requires fits { Fits sweep.now (node_list L.Leaf left.old) (node_list L.Leaf _right.now) }
+    requires ready { T.is_ready into.old taker.old (still sweep.now (node_list L.Leaf left.old) (node_list L.Leaf _right.now)) }
+    ensures sound { IsSoundNode L.Leaf left.new }
+    ensures fits { Fits sweep.now (node_list L.Leaf left.new) (node_list L.Leaf _right.now) }
+    ensures takes { TakesSome T.takes
+        (still sweep.now (node_list L.Leaf left.old) (node_list L.Leaf _right.now)) into.old taker.old
+        (still sweep.now (node_list L.Leaf left.new) (node_list L.Leaf _right.now)) into.new taker.new result }
+    ensures ready { IsTrue result
+        → T.is_ready into.new taker.new (still sweep.now (node_list L.Leaf left.new) (node_list L.Leaf _right.now)) }
+    ensures fewer { length (node_list L.Leaf left.new) ≤ length (node_list L.Leaf left.old) }
+    ensures no_more { length (still sweep.now (node_list L.Leaf left.new) (node_list L.Leaf _right.now))
+        ≤ length (still sweep.now (node_list L.Leaf left.old) (node_list L.Leaf _right.now)) }
+    ensures shape { node_shape L.Leaf left.new ≡ node_shape L.Leaf left.old }
+    ensures whole { node_whole L.Leaf left.new ≡ node_whole L.Leaf left.old }
+{
+    if let Node::Leaf(leaf) = left {
+        if let Some(bounds) = sweep.gives_left_within() {
+            return leaf.each_within(bounds, into, taker);
+        }
+    }
+    true
+}
 
 // Hands on the first spans of the left side of a sweep, which asks for them, as long as they are the next ones of the result as
-// they are. The one after them, if there is one, is told.
+// they are. Then `tell` hands it the next one, if there is one.
 #[inline(always)]
 fn each_left<L: Leaf, E, T: SpanTaker<E>>(
     sweep: &mut Sweep,
@@ -39,7 +74,11 @@ fn each_left<L: Leaf, E, T: SpanTaker<E>>(
     ensures shape { node_shape L.Leaf left.new ≡ node_shape L.Leaf left.old }
     ensures whole { node_whole L.Leaf left.new ≡ node_whole L.Leaf left.old }
 {
-    while let Some(x) = left.next() {
+    while each_given_left(sweep, left, _right, into, taker) {
+        let Some(x) = left.next() else {
+            sweep.tell(None);
+            return true;
+        };
         if !sweep.gives_left(x) {
             sweep.tell(Some(x));
             return true;
@@ -48,7 +87,40 @@ fn each_left<L: Leaf, E, T: SpanTaker<E>>(
             return false;
         }
     }
-    sweep.tell(None);
+    false
+}
+
+// Does the same for the right side.
+#[inline(always)]
+fn each_given_right<L: Leaf, E, T: SpanTaker<E>>(
+    sweep: &Sweep,
+    _left: &Node<L>,
+    right: &mut Node<L>,
+    into: &mut E,
+    taker: &mut T,
+) -> bool
+    requires sound { IsSoundNode L.Leaf right.old }
+    requires awaits { AwaitsRight sweep.now }
+    requires fits { Fits sweep.now (node_list L.Leaf _left.now) (node_list L.Leaf right.old) }
+    requires ready { T.is_ready into.old taker.old (still sweep.now (node_list L.Leaf _left.now) (node_list L.Leaf right.old)) }
+    ensures sound { IsSoundNode L.Leaf right.new }
+    ensures fits { Fits sweep.now (node_list L.Leaf _left.now) (node_list L.Leaf right.new) }
+    ensures takes { TakesSome T.takes
+        (still sweep.now (node_list L.Leaf _left.now) (node_list L.Leaf right.old)) into.old taker.old
+        (still sweep.now (node_list L.Leaf _left.now) (node_list L.Leaf right.new)) into.new taker.new result }
+    ensures ready { IsTrue result
+        → T.is_ready into.new taker.new (still sweep.now (node_list L.Leaf _left.now) (node_list L.Leaf right.new)) }
+    ensures fewer { length (node_list L.Leaf right.new) ≤ length (node_list L.Leaf right.old) }
+    ensures no_more { length (still sweep.now (node_list L.Leaf _left.now) (node_list L.Leaf right.new))
+        ≤ length (still sweep.now (node_list L.Leaf _left.now) (node_list L.Leaf right.old)) }
+    ensures shape { node_shape L.Leaf right.new ≡ node_shape L.Leaf right.old }
+    ensures whole { node_whole L.Leaf right.new ≡ node_whole L.Leaf right.old }
+{
+    if let Node::Leaf(leaf) = right {
+        if let Some(bounds) = sweep.gives_right_within() {
+            return leaf.each_within(bounds, into, taker);
+        }
+    }
     true
 }
 
@@ -79,7 +151,11 @@ fn each_right<L: Leaf, E, T: SpanTaker<E>>(
     ensures shape { node_shape L.Leaf right.new ≡ node_shape L.Leaf right.old }
     ensures whole { node_whole L.Leaf right.new ≡ node_whole L.Leaf right.old }
 {
-    while let Some(x) = right.next() {
+    while each_given_right(sweep, _left, right, into, taker) {
+        let Some(x) = right.next() else {
+            sweep.tell(None);
+            return true;
+        };
         if !sweep.gives_right(x) {
             sweep.tell(Some(x));
             return true;
@@ -88,8 +164,7 @@ fn each_right<L: Leaf, E, T: SpanTaker<E>>(
             return false;
         }
     }
-    sweep.tell(None);
-    true
+    false
 }
 
 // Hands on the spans of a sweep over two nodes.
@@ -117,8 +192,14 @@ fn each_of_two<L: Leaf, E, T: SpanTaker<E>>(
 {
     loop {
         let more = match sweep.step() {
-            Ask::Left => each_left(sweep, left, right, into, taker),
-            Ask::Right => each_right(sweep, left, right, into, taker),
+            Ask::Left => {
+                skip_left(sweep, left, right);
+                each_left(sweep, left, right, into, taker)
+            }
+            Ask::Right => {
+                skip_right(sweep, left, right);
+                each_right(sweep, left, right, into, taker)
+            }
             Ask::Give(x) => taker.take(into, x),
             Ask::End => return true,
         };
@@ -164,6 +245,29 @@ fn each_outside<L: Leaf, E, T: SpanTaker<E>>(
     }
 }
 
+// Hands on first spans of a node, if it is a leaf and hands them on in a loop.
+#[inline(always)]
+fn each_of_leaf<L: Leaf, E, T: SpanTaker<E>>(
+    node: &mut Node<L>,
+    into: &mut E,
+    taker: &mut T,
+) -> bool
+    requires sound { IsSoundNode L.Leaf node.old }
+    requires ready { T.is_ready into.old taker.old (node_list L.Leaf node.old) }
+    ensures sound { IsSoundNode L.Leaf node.new }
+    ensures takes { TakesSome T.takes (node_list L.Leaf node.old) into.old taker.old
+        (node_list L.Leaf node.new) into.new taker.new result }
+    ensures ready { IsTrue result → T.is_ready into.new taker.new (node_list L.Leaf node.new) }
+    ensures fewer { length (node_list L.Leaf node.new) ≤ length (node_list L.Leaf node.old) }
+    ensures shape { node_shape L.Leaf node.new ≡ node_shape L.Leaf node.old }
+    ensures whole { node_whole L.Leaf node.new ≡ node_whole L.Leaf node.old }
+{
+    if let Node::Leaf(leaf) = node {
+        return leaf.each_within(Bounds::ALL, into, taker);
+    }
+    true
+}
+
 // Hands on the spans of a node, one call for each.
 fn each_next<L: Leaf, E, T: SpanTaker<E>>(node: &mut Node<L>, into: &mut E, taker: &mut T) -> bool
     requires sound { IsSoundNode L.Leaf node.old }
@@ -174,12 +278,15 @@ fn each_next<L: Leaf, E, T: SpanTaker<E>>(node: &mut Node<L>, into: &mut E, take
     ensures shape { node_shape L.Leaf node.new ≡ node_shape L.Leaf node.old }
     ensures whole { node_whole L.Leaf node.new ≡ node_whole L.Leaf node.old }
 {
-    while let Some(x) = node.next() {
+    while each_of_leaf(node, into, taker) {
+        let Some(x) = node.next() else {
+            return true;
+        };
         if !taker.take(into, x) {
             return false;
         }
     }
-    true
+    false
 }
 
 // Hands on the spans of a node.

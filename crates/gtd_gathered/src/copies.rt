@@ -34,10 +34,13 @@ fn copy_halves(text: &mut [u8], bytes: &[u8])
     ensures text { text.new ≡ bytes.now ++ drop (length bytes.now) text.old }
 {
     let count = bytes.len();
+    let mut half = [0; 32];
     let (front, _) = text.split_at_mut(32);
-    front.copy_from_slice(&bytes[..32]);
+    half.copy_from_slice(&bytes[..32]);
+    front.copy_from_slice(&half);
     let (_, rest) = text.split_at_mut(count - 32);
     let (back, _) = rest.split_at_mut(32);
     let (_, last) = bytes.split_at(count - 32);
-    back.copy_from_slice(last);
+    half.copy_from_slice(last);
+    back.copy_from_slice(&half);
 }

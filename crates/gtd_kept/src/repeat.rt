@@ -8,6 +8,7 @@ ghost use Rattle.gtd_kept.specs.facts.RepeatProps.{AreLastTold-prop, IsPlace-pro
 use crate::room::at_most_kept;
 use gtd_core::{Horizon, Sec, Span};
 use gtd_recur::Period;
+use gtd_spans::Bounds;
 use std::alloc::{AllocError, Global};
 
 /// What is known of the spans of a period.
@@ -58,10 +59,12 @@ pub struct Repeat {
 
 impl Repeat {
     ghost use Rattle.std.specs.Prelude.{◌≡◌, ◌≤◌, ◌⊎◌, ◌+ℤ◌, ◌≤ℤ◌, ◌<ℤ◌, ◌<◌, ◌∷◌, ◌++◌, [], List, length, drop};
-    ghost use Rattle.std.specs.Prelude.{IfNone, IfOk, IsTrue, IsFalse, MatchOption};
+    ghost use Rattle.std.specs.Prelude.{IfNone, IfOk, IfSome, IsTrue, IsFalse, MatchOption};
     ghost use Rattle.gtd_core.specs.Seconds.{Interval};
     ghost use Rattle.gtd_core.specs.Whole.{whole};
     ghost use Rattle.gtd_spans.specs.Normal.{IsNormal};
+    ghost use Rattle.gtd_spans.specs.Inside.{IsInside};
+    ghost use Rattle.gtd_spans.specs.Skipping.{LeavesOut};
     ghost use Rattle.gtd_spans.specs.Sweeping.{Takes};
     ghost use Rattle.gtd_recur.specs.Periods.{period_seconds};
     ghost use Rattle.gtd_kept.specs.Repeating.{IsRepeating, later, to_come};
@@ -213,6 +216,81 @@ impl Repeat {
         let span = self.a_period_later(first)?;
         self.put_last(span);
         Some(span)
+    }
+
+    // Leaves the next span out, if it ends by a second, and answers whether it did.
+    fn skips_one(&mut self, second: Sec) -> bool
+        requires repeating { IsRepeating self.old.stage }
+        ensures leaves { (xs : List Interval) → IsNormal xs → HasKept self.old xs
+            → LeavesOut second.0 (to_come self.old.stage xs) (to_come self.new.stage xs) }
+        ensures kept { (xs : List Interval) → IsNormal xs → HasKept self.old xs → HasKept self.new xs }
+        ensures again { (xs : List Interval) → CanBeginAgain self.old xs → CanBeginAgain self.new xs }
+        ensures ended { IsLapEnded self.old → IsLapEnded self.new }
+        ensures told { self.new.told.items ≡ self.old.told.items }
+        ensures repeating { IsRepeating self.new.stage }
+        ensures room { self.new.room ≡ self.old.room }
+    {
+        let Some(first) = self.first() else {
+            return false;
+        };
+        let Some(span) = self.a_period_later(first) else {
+            return false;
+        };
+        if span.until() > second {
+            return false;
+        }
+        self.put_last(span);
+        true
+    }
+
+    /// Leaves out the next spans that end by a second.
+    pub fn skip_to(&mut self, second: Sec)
+        requires repeating { IsRepeating self.old.stage }
+        ensures leaves { (xs : List Interval) → IsNormal xs → HasKept self.old xs
+            → LeavesOut second.0 (to_come self.old.stage xs) (to_come self.new.stage xs) }
+        ensures kept { (xs : List Interval) → IsNormal xs → HasKept self.old xs → HasKept self.new xs }
+        ensures again { (xs : List Interval) → CanBeginAgain self.old xs → CanBeginAgain self.new xs }
+        ensures ended { IsLapEnded self.old → IsLapEnded self.new }
+        ensures told { self.new.told.items ≡ self.old.told.items }
+        ensures repeating { IsRepeating self.new.stage }
+        ensures room { self.new.room ≡ self.old.room }
+    {
+        for _ in 0..u64::MAX {
+            if !self.skips_one(second) {
+                return;
+            }
+        }
+    }
+
+    /// The next span, as `turn` finds it, if it lies inside of bounds. Otherwise nothing changes.
+    #[inline(always)]
+    pub fn turn_within(&mut self, bounds: Bounds) -> Option<Span>
+        requires repeating { IsRepeating self.old.stage }
+        ensures takes { (xs : List Interval) → IsNormal xs → HasKept self.old xs
+            → MatchOption result (to_come self.new.stage xs ≡ to_come self.old.stage xs)
+            (λ x. to_come self.old.stage xs ≡ x ∷ to_come self.new.stage xs) }
+        ensures inside { IfSome result (IsInside bounds) }
+        ensures kept { (xs : List Interval) → IsNormal xs → HasKept self.old xs → HasKept self.new xs }
+        ensures again { (xs : List Interval) → CanBeginAgain self.old xs → CanBeginAgain self.new xs }
+        ensures ended { IsLapEnded self.old → IsLapEnded self.new }
+        ensures told { self.new.told.items ≡ self.old.told.items }
+        ensures repeating { IsRepeating self.new.stage }
+        ensures room { self.new.room ≡ self.old.room }
+    {
+        let first = self.first()?;
+        let span = self.a_period_later(first)?;
+        if !bounds.contain(span) {
+            return None;
+        }
+        self.put_last(span);
+        Some(span)
+    }
+
+    /// Whether nothing is left of the spans that came before all of a period were kept.
+    pub fn is_lap_ended(&self) -> bool
+        ensures ended { IsTrue result → IsLapEnded self.now }
+    {
+        self.lap >= self.told.len()
     }
 
     /// The next span, after the list was begun again: as long as there are any, one of those that came before all of a period

@@ -1,16 +1,16 @@
 -- Spans that are handed out as their side gives them: the state stays.
-use Rattle.std.proofs.Common.{◌≡◌, ◌↔◌, List, [], ◌∷◌, refl, inl, inr, arith, Option, Some, None}
+use Rattle.std.proofs.Common.{◌≡◌, ◌↔◌, List, [], ◌∷◌, inl, inr, arith, Option, Some, None}
 use Rattle.std.specs.Prelude.{ℤ, ◌≤ℤ◌}
 use Rattle.std.proofs.lemmas.Int.{ints}
 use Rattle.gtd_core.specs.Seconds.{Interval, Within}
 use Rattle.gtd_core.specs.declared.domain.Op.{Op}
 use Rattle.gtd_core.specs.declared.domain.Op.TheVariants.{Union, Meet, Minus}
-use Rattle.gtd_spans.specs.Normal.{Holds, IsNormal, combine, AllBeginFrom}
+use Rattle.gtd_spans.specs.Normal.{Holds, IsNormal, combine}
 use Rattle.gtd_spans.specs.declared.merge.Side.{Side}
 use Rattle.gtd_spans.specs.declared.merge.Side.TheVariants.{Open, Held, Ended}
 use Rattle.gtd_spans.specs.declared.merge.Merge.{Merge}
-use Rattle.gtd_spans.specs.Merging.{side_list, still, Fits, OnlyUnionKeeps, Covers, ComesBehind, IsLeftGivenBy, IsRightGivenBy}
-use Rattle.gtd_spans.specs.Merging.{Takes, AwaitsLeft, AwaitsRight, GivesLeft, GivesRight}
+use Rattle.gtd_spans.specs.Merging.{side_list, OnlyUnionKeeps, IsLeftGivenBy, IsRightGivenBy}
+use Rattle.gtd_spans.specs.Merging.{AwaitsLeft, AwaitsRight, GivesLeft, GivesRight}
 use Rattle.gtd_spans.specs.facts.Combining.{combine-normal}
 use Rattle.gtd_spans.proofs.UnionSteps.{from-weaken, normal-begins, union-nil}
 use Rattle.gtd_spans.proofs.MeetSteps.{meet-left, meet-right, meet-keeps, minus-keeps}

@@ -9,6 +9,7 @@
 //! five list operations take memory.
 #![tactic(auto)]
 
+pub use bounds::Bounds;
 pub use by_day::ByDay;
 pub use list::{Listed, SpanList};
 pub use merge::Ask;
@@ -16,6 +17,7 @@ pub use operations::{complement, meet, minus, same, union, within};
 pub use source::{Both, Outside, SpanSource, Unite, Without, next_change};
 pub use sweep::Sweep;
 
+mod bounds;
 mod by_day;
 pub mod laws;
 mod list;

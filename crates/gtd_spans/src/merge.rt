@@ -7,7 +7,8 @@ ghost use Rattle.gtd_spans.specs.Normal.{Holds, IsNormal, combine};
 ghost use Rattle.gtd_spans.specs.Merging.{listed, side_list, AllBeginFrom, Fits, still, AwaitsLeft, AwaitsRight, Steps};
 ghost use Rattle.gtd_spans.specs.Merging.{SameEnded, TellsLeft, TellsRight, GivesLeft, GivesRight, unended_sides, told_count};
 
-use gtd_core::{Op, Span};
+use crate::bounds::Bounds;
+use gtd_core::{Op, Sec, Span};
 
 /// What is known of one side of an operator.
 #[derive(Clone, Copy, Debug)]
@@ -21,7 +22,9 @@ pub(crate) enum Side {
 }
 
 impl Side {
+    ghost use Rattle.gtd_spans.specs.Inside.{AllInside};
     ghost use Rattle.gtd_spans.specs.Merging.{ComesFirst, Covers, ComesBehind};
+    ghost use Rattle.gtd_spans.specs.declared.merge.Side.TheVariants.{Held};
 
     /// A side that was told its next span, or that it has none.
     #[inline(always)]
@@ -42,6 +45,46 @@ impl Side {
         match self {
             Side::Held(y) => y.from() <= x.from() && x.until() <= y.until(),
             Side::Open | Side::Ended => false,
+        }
+    }
+
+    /// The bounds inside of which it covers every span: those of its next one.
+    #[inline(always)]
+    fn covered(self) -> Option<Bounds>
+        ensures covered { AllInside result (Covers self) }
+    {
+        match self {
+            Side::Held(y) => Some(Bounds {
+                from: y.from(),
+                until: y.until(),
+            }),
+            Side::Open | Side::Ended => None,
+        }
+    }
+
+    /// The bounds inside of which every span ends before all that it still has, if that is known.
+    #[inline(always)]
+    fn earlier(self) -> Option<Bounds>
+        ensures earlier { AllInside result (ComesBehind self) }
+    {
+        match self {
+            Side::Held(y) => Some(Bounds {
+                from: Sec(i64::MIN),
+                until: y.from(),
+            }),
+            Side::Ended => Some(Bounds::ALL),
+            Side::Open => None,
+        }
+    }
+
+    /// Where its next span begins, if that is known.
+    #[inline(always)]
+    fn begins(self) -> Option<Sec>
+        ensures begins { IfSome result (λ second. (x : Interval) × (self ≡ Held x) × (second.0 ≡ x.from)) }
+    {
+        match self {
+            Side::Held(x) => Some(x.from()),
+            Side::Open | Side::Ended => None,
         }
     }
 
@@ -105,7 +148,9 @@ fn joined(kept: Option<Span>, next: Span) -> (Option<Span>, Span)
 
 impl Merge {
     ghost use Rattle.gtd_spans.specs.declared.merge.Side.TheVariants.{Open, Held, Ended};
+    ghost use Rattle.gtd_spans.specs.Inside.{AllInside};
     ghost use Rattle.gtd_spans.specs.Merging.{IsLeftGiven, IsRightGiven};
+    ghost use Rattle.gtd_spans.specs.Skipping.{MergeNeedsLeftFrom, MergeNeedsRightFrom};
 
     /// The merge of an operator, before any step.
     pub fn new(op: Op) -> Merge
@@ -160,6 +205,57 @@ impl Merge {
         match self.op {
             Op::Meet => left.covers(x),
             Op::Union | Op::Minus => false,
+        }
+    }
+
+    /// The bounds inside of which each first span of the left side, which the last step asked for, is the next one of the result as
+    /// it is.
+    #[inline(always)]
+    pub fn gives_left_within(&self) -> Option<Bounds>
+        ensures gives { AwaitsLeft self.now → AllInside result (GivesLeft self.now) }
+    {
+        let right = self.right;
+        match self.op {
+            Op::Union => None,
+            Op::Meet => right.covered(),
+            Op::Minus => right.earlier(),
+        }
+    }
+
+    /// The same for the right side.
+    #[inline(always)]
+    pub fn gives_right_within(&self) -> Option<Bounds>
+        ensures gives { AwaitsRight self.now → AllInside result (GivesRight self.now) }
+    {
+        let left = self.left;
+        match self.op {
+            Op::Meet => left.covered(),
+            Op::Union | Op::Minus => None,
+        }
+    }
+
+    /// The second up to which spans of the left side, which the last step asked for, make no difference: where the right side of an
+    /// intersection has nothing earlier.
+    #[inline(always)]
+    pub fn needs_left_from(&self) -> Option<Sec>
+        ensures needs { AwaitsLeft self.now → IfSome result (λ second. MergeNeedsLeftFrom self.now second.0) }
+    {
+        let right = self.right;
+        match self.op {
+            Op::Meet => right.begins(),
+            Op::Union | Op::Minus => None,
+        }
+    }
+
+    /// The same for the right side: where the left side of an intersection or a difference has nothing earlier.
+    #[inline(always)]
+    pub fn needs_right_from(&self) -> Option<Sec>
+        ensures needs { AwaitsRight self.now → IfSome result (λ second. MergeNeedsRightFrom self.now second.0) }
+    {
+        let left = self.left;
+        match self.op {
+            Op::Meet | Op::Minus => left.begins(),
+            Op::Union => None,
         }
     }
 

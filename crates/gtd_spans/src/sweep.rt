@@ -8,8 +8,9 @@ ghost use Rattle.gtd_spans.specs.Normal.{Holds, IsNormal, Combined, combine};
 ghost use Rattle.gtd_spans.specs.Alone.{TakesAway};
 ghost use Rattle.gtd_spans.specs.facts.AloneProps.{TakesAway-prop};
 
+use crate::bounds::Bounds;
 use crate::merge::{Ask, Merge};
-use gtd_core::{Horizon, Op, Span};
+use gtd_core::{Horizon, Op, Sec, Span};
 
 /// Which sides a sweep asks.
 #[derive(Clone, Copy, Debug)]
@@ -38,6 +39,9 @@ impl Sweep {
     ghost use Rattle.gtd_spans.specs.Sweeping.{still, Fits, AwaitsLeft, AwaitsRight, HasOneSide, LeftEnded, RightEnded};
     ghost use Rattle.gtd_spans.specs.Sweeping.{Steps, TellsLeft, TellsRight, unended_sides};
     ghost use Rattle.gtd_spans.specs.Sweeping.{IsLeftGiven, IsRightGiven, GivesLeft, GivesRight};
+    ghost use Rattle.std.specs.Prelude.{IfSome};
+    ghost use Rattle.gtd_spans.specs.Inside.{AllInside};
+    ghost use Rattle.gtd_spans.specs.Skipping.{NeedsLeftFrom, NeedsRightFrom};
 
     /// The sweep of an operator over two sides, before any step.
     pub fn new(op: Op) -> Sweep
@@ -111,6 +115,52 @@ impl Sweep {
         match self.sides {
             Sides::Both => self.merge.gives_right(x),
             Sides::Left => false,
+        }
+    }
+
+    /// The bounds inside of which each first span of the side that the last step asked for is the next one of the result as it is,
+    /// if that is known of the left side. Such spans may be handed out one after another, and nothing is to be told.
+    #[inline(always)]
+    pub fn gives_left_within(&self) -> Option<Bounds>
+        ensures gives { AwaitsLeft self.now → AllInside result (GivesLeft self.now) }
+    {
+        match self.sides {
+            Sides::Both => self.merge.gives_left_within(),
+            Sides::Left => None,
+        }
+    }
+
+    /// The same for the right side.
+    #[inline(always)]
+    pub fn gives_right_within(&self) -> Option<Bounds>
+        ensures gives { AwaitsRight self.now → AllInside result (GivesRight self.now) }
+    {
+        match self.sides {
+            Sides::Both => self.merge.gives_right_within(),
+            Sides::Left => None,
+        }
+    }
+
+    /// The second up to which spans of the side that the last step asked for make no difference to what is still to come, if that
+    /// is known of the left side.
+    #[inline(always)]
+    pub fn needs_left_from(&self) -> Option<Sec>
+        ensures needs { AwaitsLeft self.now → IfSome result (λ second. NeedsLeftFrom self.now second.0) }
+    {
+        match self.sides {
+            Sides::Both => self.merge.needs_left_from(),
+            Sides::Left => None,
+        }
+    }
+
+    /// The same for the right side.
+    #[inline(always)]
+    pub fn needs_right_from(&self) -> Option<Sec>
+        ensures needs { AwaitsRight self.now → IfSome result (λ second. NeedsRightFrom self.now second.0) }
+    {
+        match self.sides {
+            Sides::Both => self.merge.needs_right_from(),
+            Sides::Left => None,
         }
     }
 

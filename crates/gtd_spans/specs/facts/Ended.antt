@@ -1,12 +1,10 @@
 -- What an operator makes of a side that has nothing.
-use Rattle.std.proofs.Common.{◌≡◌, ◌∙◌, List, [], ◌∷◌, Option, Some, None, ap, sym, subst, inl, inr}
+use Rattle.std.proofs.Common.{◌≡◌, List, []}
 use Rattle.gtd_core.specs.Seconds.{Interval}
-use Rattle.gtd_core.specs.declared.domain.Op.{Op}
-use Rattle.gtd_core.specs.declared.domain.Op.TheVariants.{Union, Meet, Minus}
-use Rattle.gtd_spans.specs.Normal.{IsNormal, combine}
+use Rattle.gtd_core.specs.declared.domain.Op.TheVariants.{Meet, Minus}
+use Rattle.gtd_spans.specs.Normal.{combine}
 use Rattle.gtd_spans.specs.facts.Combining.{combine-normal, combine-holds}
-use Rattle.gtd_spans.specs.facts.OneList.{after-holds, one-list}
-use Rattle.gtd_spans.specs.facts.Orders.{after-from-holds}
+use Rattle.gtd_spans.specs.facts.OneList.{one-list}
 
 pub nothing-meet : (ys : List Interval) → combine Meet [] ys ≡ []
 nothing-meet ys = one-list _ [] (combine-normal Meet [] ys) tt

@@ -19,57 +19,62 @@ next_of_one-loop-inner-preserved g t c =
       whole = c.next-told.ensures.whole ∙ old.whole;
     }
 
-pub next_of_two-loop-left-preserved-in-Left : goal.next_of_two-loop-left-preserved-in-Left
-next_of_two-loop-left-preserved-in-Left g t c =
-    let old = c.loop-left.invariant in
-    let kept = c.in-Left.ensures.steps.1 (node_list g.L.Leaf c.loop-left.left) (node_list g.L.Leaf c.loop-left.right)
+pub next_of_two-loop-sweep-preserved-in-Left : goal.next_of_two-loop-sweep-preserved-in-Left
+next_of_two-loop-sweep-preserved-in-Left g t c =
+    let old = c.loop-sweep.invariant in
+    let kept = c.in-Left.ensures.steps.1 (node_list g.L.Leaf c.loop-sweep.left) (node_list g.L.Leaf c.loop-sweep.right)
     old.fits in
-    let told = c.tell-in-Left.ensures.left c.in-Left.ensures.steps.0 (node_list g.L.Leaf c.loop-left.left)
-    (node_list g.L.Leaf c.next.new.self) (node_list g.L.Leaf c.loop-left.right) (rw c.in-Some.is at c.next.ensures.takes)
-    kept.0 in
+    let skip = c.skip_left.ensures in
+    let told = c.tell-in-Left.ensures.left c.in-Left.ensures.steps.0 (node_list g.L.Leaf c.skip_left.new.left)
+    (node_list g.L.Leaf c.next.new.self) (node_list g.L.Leaf c.loop-sweep.right) (rw c.in-Some.is at c.next.ensures.takes)
+    skip.fits in
     record {
       left_sound = c.next.ensures.sound;
       right_sound = old.right_sound;
       fits = told.0;
-      same = old.same ∙ kept.1 ∙ told.1;
-      left_shape = c.next.ensures.shape ∙ old.left_shape;
+      same = old.same ∙ kept.1 ∙ skip.same ∙ told.1;
+      left_shape = c.next.ensures.shape ∙ skip.shape ∙ old.left_shape;
       right_shape = old.right_shape;
-      left_whole = c.next.ensures.whole ∙ old.left_whole;
+      left_whole = c.next.ensures.whole ∙ skip.whole ∙ old.left_whole;
       right_whole = old.right_whole;
     }
 
-pub next_of_two-loop-left-preserved : goal.next_of_two-loop-left-preserved
-next_of_two-loop-left-preserved g t c =
-    let old = c.loop-left.invariant in
-    let kept = c.in-Right.ensures.steps.1 (node_list g.L.Leaf c.loop-left.left) (node_list g.L.Leaf c.loop-left.right) old.fits in
-    let told = c.tell-in-Right.ensures.right c.in-Right.ensures.steps.0 (node_list g.L.Leaf c.loop-left.left)
-    (node_list g.L.Leaf c.loop-left.right) (node_list g.L.Leaf c.next-in-Right.new.self)
-    (rw c.in-Some-next.is at c.next-in-Right.ensures.takes) kept.0 in
+pub next_of_two-loop-sweep-preserved : goal.next_of_two-loop-sweep-preserved
+next_of_two-loop-sweep-preserved g t c =
+    let old = c.loop-sweep.invariant in
+    let kept = c.in-Right.ensures.steps.1 (node_list g.L.Leaf c.loop-sweep.left)
+        (node_list g.L.Leaf c.loop-sweep.right) old.fits in
+    let skip = c.skip_right.ensures in
+    let told = c.tell-in-Right.ensures.right c.in-Right.ensures.steps.0 (node_list g.L.Leaf c.loop-sweep.left)
+    (node_list g.L.Leaf c.skip_right.new.right) (node_list g.L.Leaf c.next-in-Right.new.self)
+    (rw c.in-Some-next.is at c.next-in-Right.ensures.takes) skip.fits in
     record {
       left_sound = old.left_sound;
       right_sound = c.next-in-Right.ensures.sound;
       fits = told.0;
-      same = old.same ∙ kept.1 ∙ told.1;
+      same = old.same ∙ kept.1 ∙ skip.same ∙ told.1;
       left_shape = old.left_shape;
-      right_shape = c.next-in-Right.ensures.shape ∙ old.right_shape;
+      right_shape = c.next-in-Right.ensures.shape ∙ skip.shape ∙ old.right_shape;
       left_whole = old.left_whole;
-      right_whole = c.next-in-Right.ensures.whole ∙ old.right_whole;
+      right_whole = c.next-in-Right.ensures.whole ∙ skip.whole ∙ old.right_whole;
     }
 
-pub next_of_two-loop-left-preserved-in_default : goal.next_of_two-loop-left-preserved-in_default
-next_of_two-loop-left-preserved-in_default g t c =
-    let old = c.loop-left.invariant in
-    let kept = c.in-Left.ensures.steps.1 (node_list g.L.Leaf c.loop-left.left) (node_list g.L.Leaf c.loop-left.right) old.fits in
-    let told = c.tell.ensures.left c.in-Left.ensures.steps.0 (node_list g.L.Leaf c.loop-left.left)
-    (node_list g.L.Leaf c.next.new.self) (node_list g.L.Leaf c.loop-left.right) (rw c.in_default.is at c.next.ensures.takes)
-    kept.0 in
+pub next_of_two-loop-sweep-preserved-in_default : goal.next_of_two-loop-sweep-preserved-in_default
+next_of_two-loop-sweep-preserved-in_default g t c =
+    let old = c.loop-sweep.invariant in
+    let kept = c.in-Left.ensures.steps.1 (node_list g.L.Leaf c.loop-sweep.left)
+        (node_list g.L.Leaf c.loop-sweep.right) old.fits in
+    let skip = c.skip_left.ensures in
+    let told = c.tell.ensures.left c.in-Left.ensures.steps.0 (node_list g.L.Leaf c.skip_left.new.left)
+    (node_list g.L.Leaf c.next.new.self) (node_list g.L.Leaf c.loop-sweep.right) (rw c.in_default.is at c.next.ensures.takes)
+    skip.fits in
     record {
       left_sound = c.next.ensures.sound;
       right_sound = old.right_sound;
       fits = told.0;
-      same = old.same ∙ kept.1 ∙ told.1;
-      left_shape = c.next.ensures.shape ∙ old.left_shape;
+      same = old.same ∙ kept.1 ∙ skip.same ∙ told.1;
+      left_shape = c.next.ensures.shape ∙ skip.shape ∙ old.left_shape;
       right_shape = old.right_shape;
-      left_whole = c.next.ensures.whole ∙ old.left_whole;
+      left_whole = c.next.ensures.whole ∙ skip.whole ∙ old.left_whole;
       right_whole = old.right_whole;
     }

@@ -27,8 +27,8 @@ invariant-next_of_one-loop-inner g l = record {
 abbrev pub decreases-next_of_one-loop-inner : goal.decreases-next_of_one-loop-inner
 decreases-next_of_one-loop-inner g l = length (node_list g.L.Leaf l.inner) + unended_sides l.sweep
 
-abbrev pub invariant-next_of_two-loop-left : goal.invariant-next_of_two-loop-left
-invariant-next_of_two-loop-left g l = record {
+abbrev pub invariant-next_of_two-loop-sweep : goal.invariant-next_of_two-loop-sweep
+invariant-next_of_two-loop-sweep g l = record {
   left_sound : IsSoundNode g.L.Leaf l.left;
   right_sound : IsSoundNode g.L.Leaf l.right;
   fits : Fits l.sweep (node_list g.L.Leaf l.left) (node_list g.L.Leaf l.right);
@@ -40,6 +40,6 @@ invariant-next_of_two-loop-left g l = record {
   right_whole : node_whole g.L.Leaf l.right ≡ node_whole g.L.Leaf l.initial.right;
 }
 
-abbrev pub decreases-next_of_two-loop-left : goal.decreases-next_of_two-loop-left
-decreases-next_of_two-loop-left g l =
+abbrev pub decreases-next_of_two-loop-sweep : goal.decreases-next_of_two-loop-sweep
+decreases-next_of_two-loop-sweep g l =
     length (node_list g.L.Leaf l.left) + length (node_list g.L.Leaf l.right) + unended_sides l.sweep

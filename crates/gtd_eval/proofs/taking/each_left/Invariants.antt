@@ -5,8 +5,8 @@ use Rattle.gtd_eval.specs.Nodes.{node_list, node_whole, node_shape, IsSoundNode}
 use Rattle.gtd_eval.specs.Taking.{CarriesOn}
 use Rattle.gtd_eval.proofs.taking.each_left.Given as goal
 
-abbrev pub invariant-loop-x : goal.invariant-loop-x
-invariant-loop-x g l = record {
+abbrev pub invariant-loop-left : goal.invariant-loop-left
+invariant-loop-left g l = record {
   sound : IsSoundNode g.L.Leaf l.left;
   sweep : l.sweep ≡ l.initial.sweep;
   fits : Fits l.sweep (node_list g.L.Leaf l.left) (node_list g.L.Leaf l._right);
@@ -20,5 +20,5 @@ invariant-loop-x g l = record {
   whole : node_whole g.L.Leaf l.left ≡ node_whole g.L.Leaf l.initial.left;
 }
 
-abbrev pub decreases-loop-x : goal.decreases-loop-x
-decreases-loop-x g l = length (node_list g.L.Leaf l.left)
+abbrev pub decreases-loop-left : goal.decreases-loop-left
+decreases-loop-left g l = length (node_list g.L.Leaf l.left)

@@ -4,8 +4,8 @@ use Rattle.gtd_eval.specs.Nodes.{node_list, node_whole, node_shape, IsSoundNode}
 use Rattle.gtd_eval.specs.Taking.{CarriesOn}
 use Rattle.gtd_eval.proofs.taking.each_next.Given as goal
 
-abbrev pub invariant-loop-x : goal.invariant-loop-x
-invariant-loop-x g l = record {
+abbrev pub invariant-loop-node : goal.invariant-loop-node
+invariant-loop-node g l = record {
   sound : IsSoundNode g.L.Leaf l.node;
   carries : CarriesOn g.T.SpanTaker.takes (node_list g.L.Leaf l.node) l.into l.taker
       (node_list g.L.Leaf l.initial.node) l.initial.into l.initial.taker;
@@ -14,5 +14,5 @@ invariant-loop-x g l = record {
   whole : node_whole g.L.Leaf l.node ≡ node_whole g.L.Leaf l.initial.node;
 }
 
-abbrev pub decreases-loop-x : goal.decreases-loop-x
-decreases-loop-x g l = length (node_list g.L.Leaf l.node)
+abbrev pub decreases-loop-node : goal.decreases-loop-node
+decreases-loop-node g l = length (node_list g.L.Leaf l.node)

@@ -5,8 +5,8 @@ use Rattle.gtd_eval.specs.Nodes.{node_list, node_whole, node_shape, IsSoundNode}
 use Rattle.gtd_eval.specs.Taking.{CarriesOn}
 use Rattle.gtd_eval.proofs.taking.each_right.Given as goal
 
-abbrev pub invariant-loop-x : goal.invariant-loop-x
-invariant-loop-x g l = record {
+abbrev pub invariant-loop-right : goal.invariant-loop-right
+invariant-loop-right g l = record {
   sound : IsSoundNode g.L.Leaf l.right;
   sweep : l.sweep ≡ l.initial.sweep;
   fits : Fits l.sweep (node_list g.L.Leaf l._left) (node_list g.L.Leaf l.right);
@@ -20,5 +20,5 @@ invariant-loop-x g l = record {
   whole : node_whole g.L.Leaf l.right ≡ node_whole g.L.Leaf l.initial.right;
 }
 
-abbrev pub decreases-loop-x : goal.decreases-loop-x
-decreases-loop-x g l = length (node_list g.L.Leaf l.right)
+abbrev pub decreases-loop-right : goal.decreases-loop-right
+decreases-loop-right g l = length (node_list g.L.Leaf l.right)
