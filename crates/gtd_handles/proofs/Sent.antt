@@ -31,7 +31,9 @@ use Rattle.gtd_kept.proofs.repeat.Repeat.TheSendSync as repeat
 use Rattle.gtd_kept.proofs.repeat.Stage.TheSendSync as stage
 use Rattle.gtd_records.proofs.direction.Closed.TheSendSync as closed
 use Rattle.gtd_records.proofs.direction.Direction.TheSendSync as direction
+use Rattle.gtd_places.proofs.place.RowDirections.TheSendSync as row_directions
 use Rattle.gtd_places.proofs.place.RowPlace.TheSendSync as place
+use Rattle.gtd_places.proofs.place.RowVehicles.TheSendSync as row_vehicles
 use Rattle.gtd_records.proofs.vehicles.Vehicles.TheSendSync as vehicles
 use Rattle.core.proofs.option.Option.TheSendSync as option
 use Rattle.std.proofs.alloc.Global.TheSendSync as heap
@@ -87,6 +89,20 @@ ruleset parts = (
   place.the_field_send,
   place.the_sync,
   place.the_field_sync,
+  row_directions.the_send,
+  row_directions.the_field_send,
+  row_directions.the_sync,
+  row_directions.the_field_sync,
+  row_vehicles.the_send,
+  row_vehicles.the_field_send,
+  row_vehicles.the_sync,
+  row_vehicles.the_field_sync,
+  sec.the_send,
+  sec.the_field_send,
+  sec.the_sync,
+  sec.the_field_sync,
+  span.the_send,
+  span.the_sync,
   vehicles.the_send,
   vehicles.the_field_send,
   vehicles.the_sync,
@@ -115,7 +131,7 @@ domain_send = search parts depth 40
 
 -- records
 shared_send : IsSend shared_field.row
-shared_send = search parts depth 40
+shared_send = search parts depth 40 fits 20000
 
 -- what the parts of spans own
 ruleset tree_parts = (

@@ -9,8 +9,11 @@ use crate::order::places_below;
 use crate::place::RowPlace;
 use std::alloc::{AllocError, Global};
 
-/// How many places a section has, if elements are spread evenly.
-const SHARE: usize = 8;
+/// How many places a section has at most, if elements are spread evenly.
+const SHARE: usize = 4;
+
+/// How many places are gone through one by one, before an element is looked for among all of them.
+const FEW: usize = 8;
 
 /// Elements in sections of one length, and how many places there are up to the end of each section. By them an element is found
 /// sooner than among all places. Nothing rests on what they say: whoever looks sees whether it holds.
@@ -21,13 +24,14 @@ pub struct Sections {
     /// A section has as many elements as 2 to this power.
     bits: u32,
     /// The number of places up to the end of each section.
-    upto: Vec<usize>,
+    upto: Vec<u32>,
 }
 
-// The length of sections, as a power of two, if elements from the first to the last are to be in at most so many.
-fn bits_for(range: u64, most: usize) -> u32 {
-    match range.checked_div(most as u64) {
-        Some(length) => 64u32.saturating_sub(length.leading_zeros()),
+// The length of sections, as a power of two, if elements from the first to the last are to be in so many, or up to twice as many.
+fn bits_for(range: u64, count: usize) -> u32 {
+    let length = range.saturating_add(1).checked_div(count as u64);
+    match length {
+        Some(length) => 63u32.saturating_sub(length.leading_zeros()),
         None => 63,
     }
 }
@@ -44,7 +48,7 @@ fn range_of(places: &[RowPlace]) -> (u64, u64) {
 }
 
 // So many zeros.
-fn zeros(alloc: Global, count: usize) -> Result<Vec<usize>, AllocError> {
+fn zeros(alloc: Global, count: usize) -> Result<Vec<u32>, AllocError> {
     let mut zeros = Vec::with_capacity(alloc, count)?;
     for _ in 0..count {
         zeros.push(0)?;
@@ -53,15 +57,15 @@ fn zeros(alloc: Global, count: usize) -> Result<Vec<usize>, AllocError> {
 }
 
 /// Counts one more in a section.
-pub(crate) fn count_one(counts: &mut [usize], section: usize) {
+pub(crate) fn count_one(counts: &mut [u32], section: usize) {
     if let Some(count) = counts.get_mut(section) {
         *count = count.saturating_add(1);
     }
 }
 
 // Adds to the count of each section those of the sections before it.
-fn add_up(counts: &mut [usize]) {
-    let mut sum = 0usize;
+fn add_up(counts: &mut [u32]) {
+    let mut sum = 0u32;
     for section in 0..counts.len() {
         sum = sum.saturating_add(counts[section]);
         counts[section] = sum;
@@ -71,12 +75,13 @@ fn add_up(counts: &mut [usize]) {
 impl Sections {
     /// The sections of places, in whatever order.
     pub(crate) fn new(alloc: Global, places: &[RowPlace]) -> Result<Sections, AllocError> {
-        let most = places.len() / SHARE;
         let (least, range) = range_of(places);
+        let bits = bits_for(range, places.len() / SHARE);
+        let count = (range >> (bits % 64)).saturating_add(1);
         let mut sections = Sections {
             least,
-            bits: bits_for(range, most),
-            upto: zeros(alloc, most)?,
+            bits,
+            upto: zeros(alloc, count as usize)?,
         };
         for place in places {
             let section = sections.section_of(place.element);
@@ -97,25 +102,20 @@ impl Sections {
             return 0;
         };
         match self.upto.get(before) {
-            Some(start) => *start,
+            Some(start) => *start as usize,
             None => 0,
         }
     }
 
-    /// Between which of so many places those of an element are, once they are ordered.
-    pub fn near(&self, element: u64, places: usize) -> (usize, usize) {
-        let section = self.section_of(element);
-        let until = match self.upto.get(section) {
-            Some(end) => *end,
-            None => places,
-        };
-        (self.start(section), until)
+    /// The number of places before the section of an element, once they are ordered.
+    pub fn start_near(&self, element: u64) -> usize {
+        self.start(self.section_of(element))
     }
 
     /// The number of places before each section.
-    pub(crate) fn starts(&self, alloc: Global) -> Result<Vec<usize>, AllocError> {
+    pub(crate) fn starts(&self, alloc: Global) -> Result<Vec<u32>, AllocError> {
         let mut starts = Vec::with_capacity(alloc, self.upto.len())?;
-        let mut start = 0usize;
+        let mut start = 0u32;
         for end in self.upto.as_slice() {
             starts.push(start)?;
             start = *end;
@@ -140,35 +140,22 @@ fn are_below(places: &[RowPlace], from: usize, element: u64) -> bool
     false
 }
 
-// Whether the places from one on are of elements not below a given one.
-fn are_above(places: &[RowPlace], until: usize, element: u64) -> bool
-    requires sorted { IsNonDecreasingBy (λ (p : RowPlace). p.element) places.now }
-    requires within { until ≤ length places.now }
-    ensures above { IsTrue result → AllWithin (λ (p : RowPlace). element ≤ p.element) places.now until (length places.now) }
-{
-    if until == places.len() {
-        return true;
-    }
-    let first = places[until];
-    if element <= first.element {
-        return true;
-    }
-    false
-}
-
-/// The number of places of elements below a given one, which is looked for between two places first.
-pub fn places_below_near(places: &[RowPlace], near: (usize, usize), element: u64) -> usize
+/// The number of places of elements below a given one. It is looked for in a few places from `near` on first, and then in all.
+pub fn places_below_near(places: &[RowPlace], near: usize, element: u64) -> usize
     requires { IsNonDecreasingBy (λ (p : RowPlace). p.element) places.now }
     ensures within { result ≤ length places.now }
     ensures below { AllWithin (λ (p : RowPlace). p.element < element) places.now 0 result }
     ensures rest { AllWithin (λ (p : RowPlace). element ≤ p.element) places.now result (length places.now) }
 {
-    let (from, until) = near;
-    if until < from || places.len() < until {
+    if places.len() < near || !are_below(places, near, element) {
         return places_below(places, element);
     }
-    if !are_below(places, from, element) || !are_above(places, until, element) {
-        return places_below(places, element);
+    let until = near.saturating_add(FEW).min(places.len());
+    for at in near..until {
+        let place = places[at];
+        if element <= place.element {
+            return at;
+        }
     }
-    from + places_below(&places[from..until], element)
+    places_below(places, element)
 }

@@ -11,19 +11,20 @@ use crate::sections::{Sections, count_one};
 const MOST_EXCHANGES: usize = 8;
 
 // The place to which one of a section is to go, unless it is in its section already.
-fn place_for(sections: &Sections, ready: &[usize], section: usize, at: usize) -> Option<usize> {
+fn place_for(sections: &Sections, ready: &[u32], section: usize, at: usize) -> Option<usize> {
     let Some(next) = ready.get(section) else {
         return None;
     };
-    if sections.start(section) <= at && at < *next {
+    let next = *next as usize;
+    if sections.start(section) <= at && at < next {
         return None;
     }
-    Some(*next)
+    Some(next)
 }
 
 // Exchanges each place with the first of its section that is not there yet, until the places of each section stand together.
 // Of each section, `ready` has the number of places before those that are still to go there.
-fn gather(places: &mut [RowPlace], sections: &Sections, ready: &mut [usize])
+fn gather(places: &mut [RowPlace], sections: &Sections, ready: &mut [u32])
     ensures moved { IsPermutation places.old places.new }
     ensures long { length places.new ≡ length places.old }
 {
@@ -72,7 +73,7 @@ fn settle(places: &mut [RowPlace])
 
 /// Brings places near to their order by element, in a time that grows as their number does: sorting them is then a matter of one
 /// pass. Of each section, `ready` has the number of places before it.
-pub(crate) fn spread(places: &mut [RowPlace], sections: &Sections, ready: &mut [usize])
+pub(crate) fn spread(places: &mut [RowPlace], sections: &Sections, ready: &mut [u32])
     ensures moved { IsPermutation places.old places.new }
     ensures long { length places.new ≡ length places.old }
 {

@@ -6,6 +6,7 @@ use Rattle.gtd_records.specs.Closing.{Concerns, IsClosed, Restriction}
 use Rattle.gtd_records.specs.Index.{AreElementPlaces, IsRepeated}
 use Rattle.gtd_records.specs.declared.direction.Direction.{Direction}
 use Rattle.gtd_records.specs.facts.IndexFacts.{any_default, by_le, one_record}
+use Rattle.gtd_records.specs.RowPlaces.{place_of}
 use Rattle.gtd_places.specs.declared.place.RowPlace.{RowPlace}
 use Rattle.gtd_records.proofs.FoundPlaces.{repeated_closes}
 
@@ -31,7 +32,7 @@ module _ (rows : List Restriction) (part others : List RowPlace) (one other : Di
   closed_too element another placed there covered t is =
       let c = is.4 in
       let p = placed.all is.0 is.1 is.2 is.3 c.names in
-      let again = covered p.0 (record { element = is.1.element; row = is.0 }) is.1 p.1
+      let again = covered p.0 (place_of is.1 is.0) is.1 p.1
       (subst (λ (q : RowPlace). slice_index_or rows q.row is.1 ≡ is.1) (sym p.2) is.3) c.concerns in
       let early = again.early in
       let row = there.sound again.before again.place (omega arith) in (

@@ -7,6 +7,7 @@ use Rattle.gtd_records.specs.facts.IndexFacts.{any_default, by_le, one_record}
 use Rattle.gtd_records.specs.Closing.{Closes, Restriction}
 use Rattle.gtd_records.specs.ClosingRows.{AreClosingRows, IsClosingRow}
 use Rattle.gtd_records.specs.Columns.{IsSortedSet}
+use Rattle.gtd_records.specs.RowPlaces.{place_of}
 use Rattle.gtd_records.specs.declared.direction.Direction.{Direction}
 use Rattle.gtd_records.specs.Index.{AllSeen}
 use Rattle.gtd_places.specs.declared.place.RowPlace.{RowPlace}
@@ -82,6 +83,6 @@ module _ (rows : List Restriction) (part : List RowPlace) (element : ℕ) (direc
       (λ r.
           let p = placed r.before r.row r.within r.stands r.closes.names in
           (is.same n).1 (subst (Contains numbers) (sym r.is)
-          (far.each p.0 (record { element = r.row.element; row = r.before }) r.row p.1 p.2 r.stands r.closes))),
+          (far.each p.0 (place_of r.row r.before) r.row p.1 p.2 r.stands r.closes))),
     );
   }

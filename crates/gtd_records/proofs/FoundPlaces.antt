@@ -4,13 +4,11 @@ use Rattle.std.specs.Prelude.{Any, IsTrue, Option, ℤ, slice_index_or}
 use Rattle.gtd_core.specs.Trees.{Tree}
 use Rattle.gtd_records.specs.Closing.{Closes, HoldsAt, Restriction}
 use Rattle.gtd_records.specs.Index.{AllSeen, AreElementPlaces, IsRepeated}
+pub use Rattle.gtd_places.specs.facts.PlaceFacts.{nowhere}
+use Rattle.gtd_records.specs.RowPlaces.{place_of}
 use Rattle.gtd_records.specs.declared.direction.Direction.{Direction}
 use Rattle.gtd_places.specs.declared.place.RowPlace.{RowPlace}
 use Rattle.gtd_records.specs.facts.IndexFacts.{any_default, by_le, one_record}
-
--- what stands past the end
-abbrev pub nowhere : RowPlace
-nowhere = record { element = 0; row = 0 }
 
 -- the places of the rows that are kept, which are those that are told of
 pub places_kept : (kept told : List Restriction) (element : ℕ) (part : List RowPlace) → kept ≡ told
@@ -62,7 +60,7 @@ module _ (rows : List Restriction) (part : List RowPlace) (P : Restriction → T
       → NoneSoFar stop → Any P rows → ⊥
   none_of_seen element stop names seen none a =
       let p = seen a.0 a.1 a.2 a.3 (names a.1 a.4) in
-      none p.0 (record { element = a.1.element; row = a.0 }) a.1 p.1
+      none p.0 (place_of a.1 a.0) a.1 p.1
       (subst (λ (q : RowPlace). slice_index_or rows q.row a.1 ≡ a.1) (sym p.2) a.3) a.4
 
   -- the answer, where one was found

@@ -25,3 +25,4 @@ pub mod PlainRows
 pub mod LineParts
 pub mod AlikeFacts
 pub mod AnyOrder
+pub mod WeekFacts

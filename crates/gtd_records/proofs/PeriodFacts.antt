@@ -17,6 +17,7 @@ use Rattle.gtd_records.specs.declared.direction.Direction.{Direction}
 use Rattle.gtd_records.specs.ClosingCursors.{RepeatIn}
 use Rattle.gtd_records.specs.Index.{AllSeen}
 use Rattle.gtd_records.proofs.OpenFacts.{pushed}
+use Rattle.gtd_records.specs.RowPlaces.{place_of}
 use Rattle.gtd_places.specs.declared.place.RowPlace.{RowPlace}
 
 -- the restrictions at the first places repeat from a period on, as far as they close the element
@@ -47,7 +48,7 @@ all_repeat x rows part element direction vehicle stop so placed y le t = (
         → Concerns direction vehicle r → RepeatsFrom x (HoldsAt r.domain)
     own row r within stands names concerns =
         let p = placed row r within stands names in
-        so p.0 (record { element = r.element; row = row }) r p.1
+        so p.0 (place_of r row) r p.1
         (subst (λ (q : RowPlace). slice_index_or rows q.row r ≡ r) (sym p.2) stands) names concerns
 
     -- closed at one second, and so at another

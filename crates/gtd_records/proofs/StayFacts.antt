@@ -11,6 +11,7 @@ use Rattle.gtd_records.specs.facts.IndexFacts.{any_default, by_le, one_record}
 use Rattle.gtd_records.specs.Index.{AllSeen, AreElementPlaces, IsRepeated}
 use Rattle.gtd_records.proofs.FoundPlaces.{repeated_closes}
 use Rattle.gtd_records.specs.Closing.{Closes, Concerns, HoldsAt, IsClosed, Restriction}
+use Rattle.gtd_records.specs.RowPlaces.{place_of}
 use Rattle.gtd_records.specs.declared.direction.Direction.{Direction}
 use Rattle.gtd_places.specs.declared.place.RowPlace.{RowPlace}
 
@@ -153,7 +154,7 @@ module _ (rows : List Restriction) (part : List RowPlace) (element : ℕ) (direc
             let p = placed a.0 a.1 a.2 a.3 a.4.names in
             record {
               before = p.0;
-              place = record { element = a.1.element; row = a.0 };
+              place = place_of a.1 a.0;
               row = a.1;
               early = p.1;
               at = p.2;

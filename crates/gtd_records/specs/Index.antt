@@ -8,32 +8,35 @@ use Rattle.gtd_core.specs.Seconds.{Within}
 use Rattle.gtd_core.specs.Whole.{whole}
 use Rattle.gtd_core.specs.declared.horizon.Horizon.{Horizon}
 use Rattle.gtd_records.specs.Closing.{AreElements, Concerns, IsClosed, IsOpen, Restriction}
+use Rattle.gtd_records.specs.RowPlaces.{place_of}
 use Rattle.gtd_records.specs.declared.direction.Direction.{Direction}
 use Rattle.gtd_places.specs.declared.place.RowPlace.{RowPlace}
 
--- the place's row is a restriction of its element
+-- the place is that of a row: it has the row's element, directions and vehicle types
 abbrev pub IsPlaceOfRow : List Restriction → RowPlace → Type 0
-IsPlaceOfRow rows p = (r : Restriction) × (p.row < length rows) × (slice_index_or rows p.row r ≡ r) × (r.element ≡ p.element)
+IsPlaceOfRow rows p = (r : Restriction) × (p.row < length rows) × (slice_index_or rows p.row r ≡ r) × (p ≡ place_of r p.row)
 
 -- the places of all rows, by element
 pub record ArePlaces (rows : List Restriction) (places : List RowPlace) : Type 0 where
   pub sorted : IsNonDecreasingBy (λ (p : RowPlace). p.element) places
   pub sound : All (IsPlaceOfRow rows) places
   pub each : (k : ℕ) (r : Restriction) → k < length rows → slice_index_or rows k r ≡ r
-      → Contains places (record { element = r.element; row = k })
+      → Contains places (place_of r k)
   pub many : length places ≡ length rows
 
 -- each row of the element has its place among the first ones
 abbrev pub AllSeen : List Restriction → List RowPlace → ℕ → ℕ → Type 0
 AllSeen rows part element stop =
     (row : ℕ) (r : Restriction) → row < length rows → slice_index_or rows row r ≡ r → r.element ≡ element
-    → (j : ℕ) × (j < stop) × (slice_index_or part j (record { element = r.element; row = row })
-    ≡ record { element = r.element; row = row })
+    → (j : ℕ) × (j < stop) × (slice_index_or part j (place_of r row) ≡ place_of r row)
 
 -- the places of the element's rows
 pub record AreElementPlaces (rows : List Restriction) (element : ℕ) (part : List RowPlace) : Type 0 where
   pub sound : (k : ℕ) (d : RowPlace) → k < length part → ((slice_index_or part k d).row < length rows)
       × ((r : Restriction) → r ≡ slice_index_or rows (slice_index_or part k d).row r → r.element ≡ element)
+  pub says : (k : ℕ) (d : RowPlace) → k < length part
+      → (r : Restriction) → r ≡ slice_index_or rows (slice_index_or part k d).row r
+      → slice_index_or part k d ≡ place_of r (slice_index_or part k d).row
   pub all : AllSeen rows part element (length part)
   pub few : length part ≤ length rows
 

@@ -14,9 +14,11 @@ pub mod KeptCodes
 pub mod Reading
 pub mod RecordFaultNames
 pub mod Row
+pub mod RowPlaces
 pub mod RowTakers
 pub mod Table
 pub mod Taking
+pub mod Week
 pub mod facts
 pub use Rattle.gtd_core.specs.Seconds
 pub use Rattle.gtd_core.specs.Limits

@@ -28,7 +28,7 @@ fn is_at(found: &Records, side: Side<'_>, at: usize, row: usize, vehicle: u8) ->
     let Some(place) = side.places.get(at) else {
         return false;
     };
-    place.row == row && found.rows()[row].concerns(side.direction, vehicle)
+    place.row as usize == row && found.rows()[row].concerns(side.direction, vehicle)
 }
 
 // Whether rows of the other side have the same domains as those of the one.
@@ -44,9 +44,9 @@ fn is_within(found: &Records, one: Side<'_>, other: Side<'_>, vehicle: u8) -> bo
     }
     for at in 0..part.len() {
         let place = part[at];
-        let row = &found.rows()[place.row];
+        let row = &found.rows()[place.row as usize];
         if row.concerns(one.direction, vehicle)
-            && !is_at(found, other, at, place.row, vehicle)
+            && !is_at(found, other, at, place.row as usize, vehicle)
             && !found.is_repeated(others, others.len(), row, other.direction, vehicle)
         {
             return false;
@@ -118,7 +118,7 @@ impl ClosingHashes {
 pub fn hashes_of_closing(found: &Records, element: u64, vehicle: u8) -> ClosingHashes {
     let (mut positive, mut negative) = (0u32, 0u32);
     for place in found.places_of_element(element) {
-        let row = &found.rows()[place.row];
+        let row = &found.rows()[place.row as usize];
         let hash = (row.text_hash ^ 1).wrapping_mul(16_777_619);
         if row.concerns(Direction::Positive, vehicle) {
             positive = positive.wrapping_add(hash);

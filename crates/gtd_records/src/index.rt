@@ -1,25 +1,29 @@
 //! The records of a file in memory, found by their element.
 
-ghost use Rattle.std.specs.Prelude.{Any, ◌≡◌, ◌↔◌, ◌≤◌, length, IfOk, IfSome, IsFalse, IsTrue};
+ghost use Rattle.std.specs.Prelude.{Any, ◌≡◌, ◌↔◌, ◌≤◌, ◌<◌, length, slice_index_or, IfOk, IfSome, IsFalse, IsTrue};
 ghost use Rattle.gtd_core.specs.Limits.{most_nodes, most_rows};
 ghost use Rattle.gtd_core.specs.Seconds.{IsHorizonSecond, Within};
 ghost use Rattle.gtd_core.specs.Whole.{whole};
 ghost use Rattle.gtd_eval.specs.Periods.{RepeatsFrom};
 ghost use Rattle.gtd_eval.specs.Stays.{IsStay};
 ghost use Rattle.gtd_records.specs.ClosedWhen.{IsClosedWhen};
-ghost use Rattle.gtd_records.specs.Closing.{AreElements, ClosesOneWay, Concerns, IsClosed};
+ghost use Rattle.gtd_records.specs.Closing.{AreElements, Closes, ClosesOneWay, Concerns, IsClosed, Restriction};
 ghost use Rattle.gtd_records.specs.ClosingCursors.{AreAtStart, HasSecond, RepeatIn, nodes_with_cursors};
 ghost use Rattle.gtd_records.specs.ClosingRows.{AreClosingRows};
 ghost use Rattle.gtd_records.specs.Index.{AreClosing, AreElementPlaces, ArePlaces, ArePlacesWithin, IsRepeated};
 ghost use Rattle.gtd_records.specs.Columns.{IsSortedSet};
+ghost use Rattle.gtd_records.specs.RowPlaces.{place_of};
 
 use crate::closed_when::ClosedWhen;
 use crate::closing_cursors::ClosingCursors;
 use crate::direction::Direction;
 use crate::record::Record;
+use crate::row_place::{is_closed_in, place_of};
 use gtd_core::{Horizon, Op, Sec};
 use gtd_eval::{Period, Stay};
-use gtd_places::{OrderedPlaces, RowPlace, Sections, by_element, elements_of, places_below_near};
+use gtd_places::{
+    OrderedPlaces, RowPlace, RowVehicles, Sections, by_element, elements_of, places_below_near,
+};
 use std::alloc::{AllocError, Global};
 use std::marker::Model;
 
@@ -56,14 +60,12 @@ impl Model for Records {
 
 // The places of records, by element.
 fn places_of(alloc: Global, rows: &[Record]) -> Result<OrderedPlaces, AllocError>
+    requires { length rows.now ≤ most_rows }
     ensures { IfOk result (λ ordered. ArePlaces rows.now ordered.places.items) }
 {
     let mut places = Vec::with_capacity(alloc, rows.len())?;
     for (row, record) in rows.iter().enumerate() {
-        places.push(RowPlace {
-            element: record.element,
-            row,
-        })?;
+        places.push(place_of(record, row as u32))?;
     }
     let ordered = by_element(alloc, places)?;
     Ok(ordered)
@@ -114,8 +116,7 @@ impl Records {
         ensures places { AreElementPlaces self.now element result.now }
     {
         let places = self.places.as_slice();
-        let near = self.sections.near(element, places.len());
-        let from = places_below_near(places, near, element);
+        let from = places_below_near(places, self.sections.start_near(element), element);
         for at in from..places.len() {
             let place = places[at];
             if place.element != element {
@@ -125,6 +126,34 @@ impl Records {
         &places[from..]
     }
 
+    // Whether the record at a place closes its element in a direction for a vehicle type, whatever the second. Mostly the place
+    // decides this, without a look at the record.
+    fn concerns_at(&self, place: &RowPlace, direction: Direction, vehicle: u8) -> bool
+        requires inside { place.now.row < length self.now }
+        ensures concerns { (r : Restriction) → r ≡ slice_index_or self.now place.now.row r
+            → place.now ≡ place_of r place.now.row → IsTrue result ↔ Concerns direction vehicle r }
+    {
+        if !is_closed_in(place.directions, direction) {
+            return false;
+        }
+        match place.vehicles {
+            RowVehicles::Every => true,
+            RowVehicles::One(code) => code == vehicle,
+            RowVehicles::SeeRow => self.rows[place.row as usize].vehicles.serves(vehicle),
+        }
+    }
+
+    // Whether the record at a place closes its element in a direction for a vehicle type at a second.
+    fn closes_at(&self, place: &RowPlace, direction: Direction, vehicle: u8, second: Sec) -> bool
+        requires inside { place.now.row < length self.now }
+        requires in_range { IsHorizonSecond second.0 }
+        ensures closes { (r : Restriction) → r ≡ slice_index_or self.now place.now.row r
+            → place.now ≡ place_of r place.now.row
+            → IsTrue result ↔ Closes r.element direction vehicle second.0 r }
+    {
+        self.concerns_at(place, direction, vehicle) && self.rows[place.row as usize].holds(second)
+    }
+
     /// Whether some record closes the element in the direction for the vehicle type at the second. The vehicle type
     /// must be from 1 to 99, and the second on a day that a horizon may have. Takes no memory.
     pub fn closed_at(&self, element: u64, direction: Direction, vehicle: u8, second: Sec) -> bool
@@ -132,7 +161,7 @@ impl Records {
         ensures closed { IsTrue result ↔ IsClosed self.now element direction vehicle second.0 }
     {
         for place in self.places_of_element(element) {
-            if self.rows[place.row].closes(direction, vehicle, second) {
+            if self.closes_at(place, direction, vehicle, second) {
                 return true;
             }
         }
@@ -145,7 +174,7 @@ impl Records {
         ensures one_way { IsTrue result ↔ Any (ClosesOneWay element vehicle) self.now }
     {
         for place in self.places_of_element(element) {
-            if self.rows[place.row].closes_one_way(vehicle) {
+            if self.rows[place.row as usize].closes_one_way(vehicle) {
                 return true;
             }
         }
@@ -169,9 +198,9 @@ impl Records {
     {
         let mut rows = Vec::new(alloc);
         for place in self.places_of_element(element) {
-            let restriction = &self.rows[place.row];
+            let restriction = &self.rows[place.row as usize];
             if restriction.closes(direction, vehicle, second) {
-                rows.push(place.row + 1)?;
+                rows.push(place.row as usize + 1)?;
             }
         }
         Ok(in_order(rows))
@@ -193,7 +222,7 @@ impl Records {
     {
         for before in at.saturating_sub(MOST_COMPARED)..at {
             let place = places[before];
-            if self.rows[place.row].closes_alike(other, direction, vehicle) {
+            if self.rows[place.row as usize].closes_alike(other, direction, vehicle) {
                 return true;
             }
         }
@@ -241,7 +270,7 @@ impl Records {
         };
         let places = self.places_of_element(element);
         for (at, place) in places.iter().enumerate() {
-            let restriction = &self.rows[place.row];
+            let restriction = &self.rows[place.row as usize];
             if self.adds(places, at, restriction, direction, vehicle) {
                 stay = Stay::joined(Op::Union, stay, restriction.stay(second, horizon));
             }
@@ -255,7 +284,7 @@ impl Records {
     {
         let mut longest = Period::Minute;
         for place in self.places_of_element(element) {
-            let restriction = &self.rows[place.row];
+            let restriction = &self.rows[place.row as usize];
             if restriction.concerns(direction, vehicle) {
                 let period = restriction.period()?;
                 longest = longest.longer(period);
@@ -271,7 +300,7 @@ impl Records {
     {
         let mut when = ClosedWhen::Never;
         for place in self.places_of_element(element) {
-            let row = &self.rows[place.row];
+            let row = &self.rows[place.row as usize];
             if row.concerns(direction, vehicle) {
                 if row.domain().is_none() {
                     return ClosedWhen::Always;
@@ -299,7 +328,7 @@ impl Records {
         let places = self.places_of_element(element);
         let mut cursors = ClosingCursors::none(alloc);
         for (at, place) in places.iter().enumerate() {
-            let restriction = &self.rows[place.row];
+            let restriction = &self.rows[place.row as usize];
             if self.adds(places, at, restriction, direction, vehicle) {
                 cursors.add(alloc, restriction, horizon)?;
             }

@@ -70,13 +70,13 @@ fn known_text(alloc: Global, text: &[u8], domain: &SharedDomain) -> Result<Known
     })
 }
 
-// The domain that a text stands for, or its first fault.
-fn read_shared(alloc: Global, text: &[u8]) -> Result<SharedDomain, TextFault>
+// The domain that a text means, or its first fault. The domain may keep its spans in a week.
+fn read_shared(alloc: Global, text: &[u8], keep_week: bool) -> Result<SharedDomain, TextFault>
     ensures found { IfOk result (λ domain. StandsFor text.now domain × HasNoFault text.now) }
     ensures fault { IfErr result (λ fault. (fault ≡ no_memory) ⊎ IsFault text.now fault) }
 {
     let domain = read_domain(alloc, text)?;
-    match SharedDomain::new(alloc, domain) {
+    match SharedDomain::new(alloc, domain, keep_week) {
         Ok(shared) => Ok(shared),
         Err(_) => Err(NO_MEMORY),
     }
@@ -129,7 +129,7 @@ impl KnownTexts {
         Ok(Some(domain))
     }
 
-    // Keeps a text with this hash at its place, if it was read before. A file that repeats no text would only pay for the copies.
+    // Keeps a text with this hash at its place.
     fn keep(
         &mut self,
         alloc: Global,
@@ -140,9 +140,6 @@ impl KnownTexts {
         requires found { StandsFor text.now domain.now }
         requires faultless { HasNoFault text.now }
     {
-        if !self.replace_latest_hash(hash)? {
-            return Ok(());
-        }
         for _ in self.places.len()..PLACES {
             self.places.push(None)?;
         }
@@ -153,7 +150,8 @@ impl KnownTexts {
         Ok(())
     }
 
-    /// The domain that a text stands for, or its first fault: as `read_domain` answers.
+    /// The domain that a text means, or its first fault: as `read_domain` answers. A text is kept when it is read for the
+    /// second time: a file that repeats no text would only pay for the copies, and for the spans of weeks.
     pub(crate) fn read(&mut self, alloc: Global, text: &[u8]) -> Result<SharedDomain, TextFault>
         ensures found { IfOk result (λ domain. StandsFor text.now domain × HasNoFault text.now) }
         ensures fault { IfErr result (λ fault. (fault ≡ no_memory) ⊎ IsFault text.now fault) }
@@ -161,14 +159,20 @@ impl KnownTexts {
         let hash = hash_of(text);
         self.latest = hash;
         if text.len() > LONGEST {
-            return read_shared(alloc, text);
+            return read_shared(alloc, text, false);
         }
         match self.find(text, hash) {
             Ok(Some(domain)) => return Ok(domain),
             Ok(None) => {}
             Err(_) => return Err(NO_MEMORY),
         }
-        let domain = read_shared(alloc, text)?;
+        let Ok(is_repeated) = self.replace_latest_hash(hash) else {
+            return Err(NO_MEMORY);
+        };
+        let domain = read_shared(alloc, text, is_repeated)?;
+        if !is_repeated {
+            return Ok(domain);
+        }
         match self.keep(alloc, text, hash, &domain) {
             Ok(()) => Ok(domain),
             Err(_) => Err(NO_MEMORY),

@@ -14,7 +14,7 @@ use crate::direction::{Closed, Direction};
 use crate::shared::SharedDomain;
 use crate::vehicles::Vehicles;
 use gtd_core::{Domain, Horizon, Sec};
-use gtd_eval::{Leaf, Period, Stay, SweepTree, holds, period_of, stay_of};
+use gtd_eval::{Leaf, Period, Stay, SweepTree, period_of, stay_of};
 use std::alloc::{AllocError, Global};
 use std::marker::Model;
 
@@ -118,12 +118,12 @@ impl Record {
     }
 
     // Whether the record closes what it concerns at a second.
-    fn holds(&self, second: Sec) -> bool
+    pub(crate) fn holds(&self, second: Sec) -> bool
         requires { IsHorizonSecond second.0 }
         ensures { IsTrue result ↔ HoldsAt self.now.domain second.0 }
     {
-        match self.domain() {
-            Some(domain) => holds(domain, second),
+        match &self.domain {
+            Some(domain) => domain.holds(second),
             None => true,
         }
     }

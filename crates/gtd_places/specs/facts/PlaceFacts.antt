@@ -5,7 +5,13 @@ use Rattle.std.specs.List.Sorted.{IsNonDecreasingBy, IsSorted}
 use Rattle.std.specs.Ordering.{nat_cmp}
 use Rattle.std.proofs.lemmas.List.{length-map}
 use Rattle.std.proofs.lemmas.Bool.Decides.{nat_tests}
+use Rattle.gtd_places.specs.declared.place.RowDirections.TheVariants.{Positive}
 use Rattle.gtd_places.specs.declared.place.RowPlace.{RowPlace}
+use Rattle.gtd_places.specs.declared.place.RowVehicles.TheVariants.{Every}
+
+-- what stands past the end
+abbrev pub nowhere : RowPlace
+nowhere = record { element = 0; row = 0; directions = Positive; vehicles = Every }
 
 pub by_le : {P : Type 0} (a b : ℕ) → (a ≤ b → P) → (b < a → P) → P
 by_le zero b f g = f (omega arith)
@@ -32,7 +38,7 @@ number_at (q ∷ places) (suc k) d p h = number_at places k d p (omega arith)
 pub sorted_numbers : (places : List RowPlace) → IsNonDecreasingBy (λ (p : RowPlace). p.element) places
     → IsSorted nat_cmp (map (λ (p : RowPlace). p.element) places)
 sorted_numbers places sorted = λ k d low high.
-    let p : RowPlace = record { element = 0; row = 0 } in
+    let p : RowPlace = nowhere in
     let within : k + 1 < length places = rw length-map at high in
     rw (number_at places (k + 1) d p within, number_at places k d p (omega arith))
     (not_less _ _ (sorted k (k + 1) p (omega arith) within))

@@ -8,6 +8,7 @@ use Rattle.std.proofs.lemmas.List.{get_or-take, get_or-drop}
 pub use Rattle.gtd_places.specs.facts.PlaceFacts.{any_default, by_le}
 use Rattle.gtd_records.specs.Index.{AllSeen, AreElementPlaces, ArePlaces, IsPlaceOfRow}
 use Rattle.gtd_records.specs.Closing.{AreElements, Restriction}
+use Rattle.gtd_records.specs.RowPlaces.{place_of}
 use Rattle.gtd_places.specs.declared.place.RowPlace.{RowPlace}
 
 -- what is at an index
@@ -33,13 +34,17 @@ map_from_any f (y ∷ xs) (suc k) n x h e g =
     let r = map_from_any f xs k n x (omega arith) e g in
     (suc r.0, (let l = r.1 in omega arith), r.2)
 
--- the record at a place is of its element
-place_element : (rows : List Restriction) (p : RowPlace) (r : Restriction) → IsPlaceOfRow rows p
-    → r ≡ slice_index_or rows p.row r
-    → r.element ≡ p.element
-place_element rows p r h is =
+-- a place has what the record at it has
+place_says : (rows : List Restriction) (p : RowPlace) (r : Restriction) → IsPlaceOfRow rows p → r ≡ slice_index_or rows p.row r
+    → p ≡ place_of r p.row
+place_says rows p r h is =
     let e : r ≡ h.0 = is ∙ any_default rows p.row r h.0 h.1 ∙ h.2 in
-    ap (λ (x : Restriction). x.element) e ∙ h.3
+    h.3 ∙ ap (λ (x : Restriction). place_of x p.row) (sym e)
+
+-- the record at a place is of its element
+place_element : (rows : List Restriction) (p : RowPlace) (r : Restriction) → IsPlaceOfRow rows p → r ≡ slice_index_or rows p.row r
+    → r.element ≡ p.element
+place_element rows p r h is = sym (ap (λ (q : RowPlace). q.element) (place_says rows p r h is))
 
 -- the places of an element, which come one after another
 module _ (rows : List Restriction) (places : List RowPlace) (placed : ArePlaces rows places) (element from until : ℕ)
@@ -69,9 +74,19 @@ module _ (rows : List Restriction) (places : List RowPlace) (placed : ArePlaces 
             ∙ own (from + k) d (omega arith) here),
       )
 
+  part_says : (k : ℕ) (d : RowPlace) → k < length part → (r : Restriction)
+      → r ≡ slice_index_or rows (slice_index_or part k d).row r → slice_index_or part k d ≡ place_of r (slice_index_or part k d).row
+  part_says k d h r is =
+      let here : from + k < until = (let l = part_length in omega arith) in
+      let at = part_at k d here in
+      let p = slice_index_or places (from + k) d in
+      at ∙ place_says rows p r (placed.sound (from + k) d (omega (arith, here, within)))
+      (subst (λ (q : RowPlace). r ≡ slice_index_or rows q.row r) at is)
+      ∙ ap (λ (q : RowPlace). place_of r q.row) (sym at)
+
   row_placed : AllSeen rows part element (length part)
   row_placed row r inside stands names =
-      let p : RowPlace = record { element = r.element; row = row } in
+      let p : RowPlace = place_of r row in
       let h = placed.each row r inside stands in
       let k = h.0 in
       let name = ap (λ (q : RowPlace). q.element) h.2 in
@@ -93,6 +108,7 @@ module _ (rows : List Restriction) (places : List RowPlace) (placed : ArePlaces 
   pub element_places : AreElementPlaces rows element part
   element_places = record {
     sound = part_sound;
+    says = part_says;
     all = row_placed;
     few = (let l = part_length in let m = placed.many in omega arith);
   }
@@ -108,12 +124,12 @@ module _ (rows : List Restriction) (places : List RowPlace) (placed : ArePlaces 
   place_named x h =
       let a = any_from_map (λ (p : RowPlace). p.element) places h.0 x h.1 h.2 in
       let q = subst (IsPlaceOfRow rows) a.3 (placed.sound a.0 a.1 a.2) in
-      (a.1.row, q.0, q.1, q.2, q.3 ∙ a.4)
+      (a.1.row, q.0, q.1, q.2, sym (ap (λ (p : RowPlace). p.element) q.3) ∙ a.4)
 
   named_place : (x : ℕ) → Any (λ (r : Restriction). r.element ≡ x) rows → Contains (map (λ (p : RowPlace). p.element) places) x
   named_place x a =
       let c = placed.each a.0 a.1 a.2 a.3 in
-      map_from_any (λ (p : RowPlace). p.element) places c.0 x (record { element = a.1.element; row = a.0 }) c.1 c.2 a.4
+      map_from_any (λ (p : RowPlace). p.element) places c.0 x (place_of a.1 a.0) c.1 c.2 a.4
 
   pub are_elements : (elements : List ℕ) → IsStrictlyIncreasing elements
       → ((x : ℕ) → Contains elements x ↔ Contains (map (λ (p : RowPlace). p.element) places) x) → AreElements rows elements

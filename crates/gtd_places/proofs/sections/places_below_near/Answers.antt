@@ -1,24 +1,19 @@
--- If the places before a part are below the element and those after it are not, the part alone decides.
-use Rattle.std.proofs.Common.{arith, ◌≤◌, length}
-use Rattle.gtd_places.proofs.SectionFacts.{above_both, below_both, part_sorted, within_part}
+-- Places whose elements are below the given one are passed until one is not; as they are sorted, none after it is.
+use Rattle.std.proofs.Common.{arith}
+use Rattle.gtd_places.proofs.SectionFacts.{all_above, all_below}
+use Rattle.gtd_places.specs.facts.PlaceFacts.{nowhere}
 use Rattle.gtd_places.proofs.sections.places_below_near.Goals as goal
 
-pub places_below-requires-2 : goal.places_below-requires-2
-places_below-requires-2 c =
-    part_sorted c.args.places.now c.args.near.0 c.args.near.1 (omega arith) (omega arith) c.requires
+pub loop-at-init : goal.loop-at-init
+loop-at-init c = c.are_below.ensures.below c.if-not-are_below.false
 
-pub returns : goal.returns
-returns c =
-    let places = c.args.places.now in
-    let from = c.args.near.0 in
-    let until = c.args.near.1 in
-    let le : from ≤ until = omega arith in
-    let within : until ≤ length places = omega arith in
-    let found = c.places_below-2.ensures in
-    record {
-      within = within_part places from until le within _ found.within;
-      below = below_both places from until le within c.args.element _ found.within
-          (c.are_below.ensures.below c.if-not-are_below.false) found.below;
-      rest = above_both places from until le within c.args.element _ (c.are_above.ensures.above c.if-not-are_above.false)
-          found.rest;
-    }
+pub loop-at-preserved : goal.loop-at-preserved
+loop-at-preserved c =
+    all_below c.args.places.now c.requires c.args.element c.loop-at.at nowhere (omega arith) (omega arith)
+
+pub returns-then-element-place : goal.returns-then-element-place
+returns-then-element-place c = record {
+  within = omega arith;
+  below = c.loop-at.invariant;
+  rest = all_above c.args.places.now c.requires c.args.element c.loop-at.at _ (omega arith) c.if-element-place.true;
+}
