@@ -9,15 +9,18 @@
 #include "utils/timestamp.h"
 
 #include "texts.h"
+#include "windows.h"
 
 PG_MODULE_MAGIC;
 
-/* What a text stands for: a domain, or the records of one row. Without a text, the handle stands for nothing that is asked. */
+/* What a text stands for: a domain, with how it recurs, or the records of one row. Without a text, the handle stands for nothing
+   that is asked. */
 typedef struct {
     uint8_t *text;
     uint32_t hash;
     size_t length;
     gtd_handle handle;
+    recurrence recurs;
 } kept;
 
 /* What a call in a query keeps in fn_extra. Of each argument that is a domain: for each remainder of a hash the text that was
@@ -30,7 +33,7 @@ typedef struct {
 } shelf;
 typedef struct {
     MemoryContextCallback end;
-    gtd_handle made, opened;
+    gtd_handle made, opened, spans[DOMAINS];
     shelf shelves[DOMAINS];
 } site;
 
@@ -39,6 +42,7 @@ static void end_site(void *given)
     site *it = given;
     gtd_close(&it->made);
     gtd_close(&it->opened);
+    for (int at = 0; at < DOMAINS; at++) gtd_close(&it->spans[at]);
     for (int at = 0; at < DOMAINS; at++)
         for (int slot = 0; slot < SLOTS; slot++) gtd_close(&it->shelves[at].slots[slot].handle);
 }
@@ -117,6 +121,14 @@ static part part_of(text *given)
     return (part){ (const uint8_t *)VARDATA_ANY(given), VARSIZE_ANY_EXHDR(given) };
 }
 
+/* A domain or opening hours that are given as an argument. */
+static part argument_text(FunctionCallInfo fcinfo, int argument)
+{
+    part given = part_of(PG_GETARG_TEXT_PP(argument));
+    if (given.length > MOST_TEXT) ereport(ERROR, (errcode(ERRCODE_PROGRAM_LIMIT_EXCEEDED), errmsg(TOO_LONG)));
+    return given;
+}
+
 /* Reads a text, which a shelf of the site keeps if it stands for something. */
 static kept *keep(FunctionCallInfo fcinfo, shelf *at, part text, bool is_row, uint32_t *answer, gtd_record_fault *fault)
 {
@@ -138,34 +150,44 @@ static kept *keep(FunctionCallInfo fcinfo, shelf *at, part text, bool is_row, ui
     it->text = own;
     it->hash = hash;
     it->length = text.length;
+    if (!is_row) it->recurs = recurrence_of(text);
     return it;
 }
 
 /* The domain of an argument, the first or the second. */
-static gtd_handle *domain_at(FunctionCallInfo fcinfo, int argument)
+static asked_domain domain_at(FunctionCallInfo fcinfo, int argument)
 {
-    part given = part_of(PG_GETARG_TEXT_PP(argument));
+    part given = argument_text(fcinfo, argument);
     uint32_t answer;
     gtd_record_fault fault;
     kept *it = keep(fcinfo, &site_of(fcinfo)->shelves[argument], given, false, &answer, &fault);
-    if (it) return &it->handle;
-    if (answer == GTD_NO) domain_error(&fault.text, given);
-    answer_error(answer, "domain", "");
-    return NULL;
+    if (!it && answer == GTD_NO) domain_error(&fault.text, given);
+    if (!it) answer_error(answer, "domain", "");
+    return (asked_domain){ &it->handle, it->recurs };
 }
 
 static gtd_handle *domain_of(FunctionCallInfo fcinfo)
 {
-    return domain_at(fcinfo, 0);
+    return domain_at(fcinfo, 0).handle;
 }
 
 /* The domain of the second argument: that of the first one, if the texts are equal. */
-static gtd_handle *second_domain(FunctionCallInfo fcinfo, gtd_handle *first)
+static asked_domain second_domain(FunctionCallInfo fcinfo, asked_domain first)
 {
     part one = part_of(PG_GETARG_TEXT_PP(0)), other = part_of(PG_GETARG_TEXT_PP(1));
     bool are_equal = one.length == other.length && !memcmp(one.bytes, other.bytes, one.length);
     return are_equal ? first : domain_at(fcinfo, 1);
 }
+
+/* Between two windows the server ends a call that is cancelled, or whose time is over. */
+static bool stops(void *unused)
+{
+    (void)unused;
+    CHECK_FOR_INTERRUPTS();
+    return false;
+}
+
+static const stopping by_server = { stops, NULL };
 
 /* Moments. */
 
@@ -219,7 +241,7 @@ Datum gtd_pg_check(PG_FUNCTION_ARGS)
     uint32_t answer;
     gtd_record_fault fault;
     shelf *at = &site_of(fcinfo)->shelves[0];
-    if (keep(fcinfo, at, part_of(PG_GETARG_TEXT_PP(0)), false, &answer, &fault)) PG_RETURN_NULL();
+    if (keep(fcinfo, at, argument_text(fcinfo, 0), false, &answer, &fault)) PG_RETURN_NULL();
     if (answer != GTD_NO) answer_error(answer, "domain", "");
     fault_name(fault.text.kind, name);
     PG_RETURN_TEXT_P(cstring_to_text(psprintf("%s at %zu", name, fault.text.place)));
@@ -257,7 +279,7 @@ Datum gtd_pg_words(PG_FUNCTION_ARGS)
 PG_FUNCTION_INFO_V1(gtd_pg_hours);
 Datum gtd_pg_hours(PG_FUNCTION_ARGS)
 {
-    part given = part_of(PG_GETARG_TEXT_PP(0));
+    part given = argument_text(fcinfo, 0);
     gtd_handle *opened = &site_of(fcinfo)->opened;
     gtd_hours_fault fault;
     uint32_t answer = gtd_domain_from_hours(opened, given.bytes, given.length, &fault);
@@ -268,12 +290,21 @@ Datum gtd_pg_hours(PG_FUNCTION_ARGS)
     return canonical;
 }
 
+/* How the domains of the first two arguments compare from a second on. */
+static uint32_t compared(FunctionCallInfo fcinfo, int64_t from, int64_t *apart)
+{
+    gtd_handle *spans = site_of(fcinfo)->spans;
+    asked_domain first = domain_at(fcinfo, 0), domains[DOMAINS] = { first, second_domain(fcinfo, first) };
+    uint32_t answer = compare(domains, from, by_server, spans, apart);
+    for (int at = 0; at < DOMAINS; at++) gtd_close(&spans[at]);
+    return answer;
+}
+
 PG_FUNCTION_INFO_V1(gtd_pg_same);
 Datum gtd_pg_same(PG_FUNCTION_ARGS)
 {
-    gtd_handle *first = domain_of(fcinfo), *second = second_domain(fcinfo, first);
-    gtd_apart apart;
-    uint32_t answer = compare(first, second, FIRST_SECOND, &apart);
+    int64_t apart;
+    uint32_t answer = compared(fcinfo, FIRST_SECOND, &apart);
     if (answer != GTD_YES && answer != GTD_NO) answer_error(answer, "moment", APART);
     PG_RETURN_BOOL(answer == GTD_YES);
 }
@@ -289,12 +320,11 @@ FOR_EACH_TYPE(gtd_pg_holds);
 
 static Datum gtd_pg_next(FunctionCallInfo fcinfo, type as)
 {
-    gtd_handle *domain = domain_of(fcinfo);
+    asked_domain domain = domain_at(fcinfo, 0);
     moment from = moment_of(PG_GETARG_DATUM(1), as, false), until = moment_of(PG_GETARG_DATUM(2), as, true);
     int64_t change = 0;
-    uint32_t answer = GTD_RANGE;
-    if (from.second < until.second) answer = gtd_domain_next(domain, from.second, day_from(until.second), &change);
-    if (answer == GTD_NO || (answer == GTD_YES && change >= until.second)) PG_RETURN_NULL();
+    uint32_t answer = next_change(domain, from.second, until.second, by_server, &change);
+    if (answer == GTD_NO) PG_RETURN_NULL();
     if (answer != GTD_YES) answer_error(answer, "second moment", HORIZON);
     return moment_datum(change, as, from.form);
 }
@@ -302,10 +332,10 @@ FOR_EACH_TYPE(gtd_pg_next);
 
 static Datum gtd_pg_ever(FunctionCallInfo fcinfo, type as)
 {
-    gtd_handle *domain = domain_of(fcinfo);
+    asked_domain domain = domain_at(fcinfo, 0);
     moment from = moment_of(PG_GETARG_DATUM(1), as, false);
     int64_t change = 0;
-    uint32_t answer = gtd_domain_ever(domain, from.second, &change);
+    uint32_t answer = next_ever(domain, from.second, by_server, &change);
     if (answer == GTD_NO) PG_RETURN_NULL();
     if (answer != GTD_YES) answer_error(answer, "moment", EVER);
     return moment_datum(change, as, from.form);
@@ -314,36 +344,44 @@ FOR_EACH_TYPE(gtd_pg_ever);
 
 static Datum gtd_pg_apart(FunctionCallInfo fcinfo, type as)
 {
-    gtd_handle *first = domain_of(fcinfo), *second = second_domain(fcinfo, first);
     moment from = moment_of(PG_GETARG_DATUM(2), as, false);
-    gtd_apart apart = { 0 };
-    uint32_t answer = compare(first, second, from.second, &apart);
+    int64_t apart = 0;
+    uint32_t answer = compared(fcinfo, from.second, &apart);
     if (answer == GTD_YES) PG_RETURN_NULL();
     if (answer != GTD_NO) answer_error(answer, "moment", APART);
-    return moment_datum(apart.second, as, from.form);
+    return moment_datum(apart, as, from.form);
 }
 FOR_EACH_TYPE(gtd_pg_apart);
 
+/* Puts a span as a row of the result; what the row takes in memory ends with it. */
+static void put_span(ReturnSetInfo *result, MemoryContext row_memory, Datum row[2])
+{
+    bool nulls[] = { false, false };
+    tuplestore_putvalues(result->setResult, result->setDesc, row, nulls);
+    MemoryContextReset(row_memory);
+}
+
 static Datum gtd_pg_spans(FunctionCallInfo fcinfo, type as)
 {
-    gtd_handle *domain = domain_of(fcinfo), *made = &site_of(fcinfo)->made;
+    asked_domain domain = domain_at(fcinfo, 0);
+    gtd_handle *made = &site_of(fcinfo)->made;
     moment since = moment_of(PG_GETARG_DATUM(1), as, true), until = moment_of(PG_GETARG_DATUM(2), as, true);
     ReturnSetInfo *result = (ReturnSetInfo *)fcinfo->resultinfo;
-    uint32_t answer = GTD_RANGE;
+    span_walk walk;
     int64_t begins, ends;
+    uint32_t answer;
     InitMaterializedSRF(fcinfo, 0);
-    if (since.second < until.second) answer = gtd_domain_spans(domain, day_of(since.second), day_from(until.second), made);
-    if (answer != GTD_YES) answer_error(answer, "second moment", HORIZON);
-    while (gtd_spans_next(made, &begins, &ends) == GTD_YES && begins < until.second) {
+    if (!open_walk(domain, since.second, until.second, made, &walk)) answer_error(GTD_RANGE, "second moment", HORIZON);
+    MemoryContext row_memory = AllocSetContextCreate(CurrentMemoryContext, "row of gtd_spans", ALLOCSET_SMALL_SIZES);
+    MemoryContext outside = MemoryContextSwitchTo(row_memory);
+    while ((answer = next_span_of(&walk, by_server, &begins, &ends)) == GTD_YES) {
         CHECK_FOR_INTERRUPTS();
-        if (ends <= since.second) continue;
-        begins = Max(begins, since.second);
-        ends = Min(ends, until.second);
-        Datum row[] = { moment_datum(begins, as, since.form), moment_datum(ends, as, since.form) };
-        bool nulls[] = { false, false };
-        tuplestore_putvalues(result->setResult, result->setDesc, row, nulls);
+        put_span(result, row_memory, (Datum[]){ moment_datum(begins, as, since.form), moment_datum(ends, as, since.form) });
     }
+    MemoryContextSwitchTo(outside);
+    MemoryContextDelete(row_memory);
     gtd_close(made);
+    if (answer != GTD_NO) answer_error(answer, "second moment", HORIZON);
     PG_RETURN_NULL();
 }
 FOR_EACH_TYPE(gtd_pg_spans);
@@ -366,7 +404,7 @@ static gtd_handle *row_of(FunctionCallInfo fcinfo, bool is_number)
     for (int field = 0; field < 3; field++) {
         fields[field] = (part){ (const uint8_t *)"", 0 };
         if (PG_ARGISNULL(field + 1)) continue;
-        if (is_number && field == 1) fields[1] = (part){ (const uint8_t *)number, pg_ltoa(PG_GETARG_INT32(2), number) };
+        if (is_number && field == 1) fields[1] = (part){ (const uint8_t *)number, (size_t)pg_ltoa(PG_GETARG_INT32(2), number) };
         else fields[field] = part_of(PG_GETARG_TEXT_PP(field + 1));
     }
     uint8_t *file = palloc(row_room(fields));
@@ -399,7 +437,7 @@ static Datum closed_step(FunctionCallInfo fcinfo, bool is_number, type as)
                 text_error(ERRCODE_INVALID_TEXT_REPRESENTATION, "direction", direction, ASKED_DIRECTIONS);
             if (vehicle < 1 || vehicle > 99)
                 ereport(ERROR, (errcode(ERRCODE_INVALID_PARAMETER_VALUE), errmsg("vehicle type out of range: %d", vehicle),
-                                errdetail("%c%s.", pg_toupper(ASKED_VEHICLES[0]), &ASKED_VEHICLES[1])));
+                                errdetail("%c%s.", pg_toupper((unsigned char)ASKED_VEHICLES[0]), &ASKED_VEHICLES[1])));
             int64_t second = moment_of(PG_GETARG_DATUM(6), as, false).second;
             uint32_t answer = gtd_records_closed_at(row, 1, is_negative, (uint8_t)vehicle, second);
             if (answer != GTD_YES && answer != GTD_NO) answer_error(answer, "moment", "Moments lie " RANGE);

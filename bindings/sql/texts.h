@@ -13,6 +13,9 @@
 
 enum { DAY = 86400, STAMP = 19, SHOWN = 100, SHOWN_ROOM = 2 * SHOWN + 16, NAME_ROOM = 32 };
 
+/* Most bytes of a domain and of opening hours: reading them is never stopped, so that it has to end soon. */
+enum { MOST_TEXT = 1048576 };
+
 /* 1901-01-01 and 2700-01-01: the first moment, and the end of the last days that may be asked about. */
 #define FIRST_SECOND INT64_C(-2177452800)
 #define END_SECOND INT64_C(23036572800)
@@ -28,6 +31,7 @@ enum { DAY = 86400, STAMP = 19, SHOWN = 100, SHOWN_ROOM = 2 * SHOWN + 16, NAME_R
 #define EVER "moments of gtd_ever lie from 1901 to 2199"
 #define APART "moments of gtd_apart lie from 1901 to 2199"
 #define TOO_MANY "the opening hours would need more than 128 basic domains"
+#define TOO_LONG "the text has more than 1,048,576 bytes"
 #define YEAR "the domain gives a year, and gtd_ever asks about all years: gtd_next asks up to a moment"
 
 #define DIRECTIONS "positive, negative or both"
@@ -115,15 +119,6 @@ static inline void hours_fault_name(uint32_t kind, char out[NAME_ROOM])
     size_t length = 0;
     if (gtd_hours_fault_name(kind, (uint8_t *)out, NAME_ROOM - 1, &length) != GTD_YES) length = 0;
     out[length] = 0;
-}
-
-/* How two domains compare, as gtd_same answers, which takes no handle twice. That one of them gives a year makes no difference:
-   what is compared are the moments that SQL may ask about. */
-static inline uint32_t compare(gtd_handle *first, gtd_handle *second, int64_t from, gtd_apart *apart)
-{
-    if (first == second) return FIRST_SECOND <= from && from < END_OF_COMPARED ? GTD_YES : GTD_RANGE;
-    uint32_t answer = gtd_same(first, second, from, apart);
-    return answer == GTD_YEAR ? GTD_YES : answer;
 }
 
 static inline char shown(uint8_t byte)

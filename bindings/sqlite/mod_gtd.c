@@ -4,14 +4,16 @@
 SQLITE_EXTENSION_INIT1
 
 #include "texts.h"
+#include "windows.h"
 
-/* What a text stands for: a domain, or the records of one row. Whoever keeps it counts among its holders. */
+/* What a text stands for: a domain, with how it recurs, or the records of one row. Whoever keeps it counts among its holders. */
 typedef struct {
     unsigned holders;
     bool is_row;
     uint32_t hash;
     size_t length;
     gtd_handle handle;
+    recurrence recurs;
     uint8_t text[];
 } kept;
 
@@ -75,6 +77,7 @@ static kept *read_text(shelf *on, part text, bool is_row, uint32_t hash, reading
         release_kept(it);
         return NULL;
     }
+    if (!is_row) it->recurs = recurrence_of(text);
     if (*slot) release_kept(*slot);
     return on->last = *slot = it;
 }
@@ -138,6 +141,47 @@ static bool moment_of(sqlite3_value *value, bool is_bound, moment *out, char **e
     return false;
 }
 
+/* How a long call is stopped. SQLite looks whether it was interrupted, and asks its progress handler, within statements alone, so
+   that a short one is run between two windows, at most 50 times a second. It has a thousand rows, so that a handler that is asked
+   seldom is asked soon. It is prepared when it is first needed, and ends with the call. */
+enum { CHECKED_AFTER = CLOCKS_PER_SEC / 50 };
+#define CHECKING "WITH RECURSIVE n(i) AS (SELECT 1 UNION ALL SELECT i + 1 FROM n WHERE i < 1000) SELECT max(i) FROM n"
+
+typedef struct {
+    sqlite3 *db;
+    sqlite3_stmt *checking;
+    clock_t checked;
+} connection;
+
+/* Whether the statement was stopped. One that cannot be prepared, as where an authorizer refuses it, stops nothing. */
+static bool is_stopped(connection *on)
+{
+    int status = SQLITE_OK;
+    if (!on->checking) status = sqlite3_prepare_v2(on->db, CHECKING, -1, &on->checking, NULL);
+    if (on->checking) {
+        status = sqlite3_step(on->checking);
+        sqlite3_reset(on->checking);
+    }
+    return status == SQLITE_INTERRUPT;
+}
+
+static bool stops(void *given)
+{
+    connection *on = given;
+    clock_t now = clock();
+    if (on->checked && now - on->checked < CHECKED_AFTER) return false;
+    bool is_first = !on->checked;
+    on->checked = now;
+    return !is_first && is_stopped(on);
+}
+
+static void end_checks(connection *on)
+{
+    sqlite3_finalize(on->checking);
+    on->checking = NULL;
+    on->checked = 0;
+}
+
 /* Ends a call with an error; a message that is NULL stands for refused memory. */
 static void refuse(sqlite3_context *context, char *error)
 {
@@ -153,7 +197,16 @@ static void refuse(sqlite3_context *context, char *error)
 static void refuse_answer(sqlite3_context *context, uint32_t answer, const char *range)
 {
     if (answer == GTD_MEMORY) sqlite3_result_error_nomem(context);
+    else if (answer == STOPPED) sqlite3_result_error_code(context, SQLITE_INTERRUPT);
     else sqlite3_result_error(context, answer == GTD_YEAR ? YEAR : answer == GTD_RANGE ? range : "a wrong handle", -1);
+}
+
+/* Whether a text is too long; then the call has ended with an error. */
+static bool is_too_long(sqlite3_context *context, part text)
+{
+    if (text.length <= MOST_TEXT) return false;
+    sqlite3_result_error(context, TOO_LONG, -1);
+    return true;
 }
 
 /* What the domain of an argument stands for, or NULL where the call has ended with an error. */
@@ -165,6 +218,7 @@ static kept *kept_of(sqlite3_context *context, sqlite3_value **values, int argum
     part text = text_of(values[argument]);
     reading why = { .answer = GTD_MEMORY };
     uint32_t hash;
+    if (is_too_long(context, text)) return NULL;
     if (text.bytes && (it = find(on, text, false, &hash))) return it;
     if (text.bytes) it = read_text(on, text, false, hash, &why);
     if (!it) {
@@ -209,6 +263,7 @@ static void sql_check(sqlite3_context *context, int count, sqlite3_value **value
     part text = text_of(values[0]);
     reading why;
     char name[NAME_ROOM];
+    if (is_too_long(context, text)) return;
     if (keep(sqlite3_user_data(context), text, false, &why)) return;
     if (why.answer != GTD_NO) {
         sqlite3_result_error_nomem(context);
@@ -256,6 +311,7 @@ static void sql_hours(sqlite3_context *context, int count, sqlite3_value **value
     gtd_hours_fault fault;
     if (any_null(count, values)) return;
     part text = text_of(values[0]);
+    if (is_too_long(context, text)) return;
     uint32_t answer = text.bytes ? gtd_domain_from_hours(&domain, text.bytes, text.length, &fault) : GTD_MEMORY;
     if (answer == GTD_YES) result_text(context, &domain, gtd_domain_canon);
     else refuse(context, answer == GTD_NO ? hours_error(&fault, text) : NULL);
@@ -278,20 +334,28 @@ static void sql_holds(sqlite3_context *context, int count, sqlite3_value **value
 }
 
 /* How the domains of the first two arguments compare from a second on; GTD_KIND where the call has ended with an error. */
-static uint32_t compared(sqlite3_context *context, sqlite3_value **values, int64_t from, gtd_apart *apart)
+static uint32_t compared(sqlite3_context *context, sqlite3_value **values, int64_t from, int64_t *apart)
 {
     kept *first = kept_of(context, values, 0);
     if (!first) return GTD_KIND;
     first->holders++; /* the second text may take its slot of the shelf */
     kept *second = kept_of(context, values, 1);
-    uint32_t answer = second ? compare(&first->handle, &second->handle, from, apart) : GTD_KIND;
+    uint32_t answer = GTD_KIND;
+    if (second) {
+        connection on = { .db = sqlite3_context_db_handle(context) };
+        asked_domain domains[] = { { &first->handle, first->recurs }, { &second->handle, second->recurs } };
+        gtd_handle spans[] = { GTD_NONE, GTD_NONE };
+        answer = compare(domains, from, (stopping){ stops, &on }, spans, apart);
+        for (int at = 0; at < 2; at++) gtd_close(&spans[at]);
+        end_checks(&on);
+    }
     release_kept(first);
     return answer;
 }
 
 static void sql_same(sqlite3_context *context, int count, sqlite3_value **values)
 {
-    gtd_apart apart;
+    int64_t apart;
     if (any_null(count, values)) return;
     uint32_t answer = compared(context, values, FIRST_SECOND, &apart);
     if (answer == GTD_YES || answer == GTD_NO) sqlite3_result_int(context, answer == GTD_YES);
@@ -301,7 +365,7 @@ static void sql_same(sqlite3_context *context, int count, sqlite3_value **values
 static void sql_apart(sqlite3_context *context, int count, sqlite3_value **values)
 {
     moment from;
-    gtd_apart apart;
+    int64_t apart;
     char *error;
     if (any_null(count, values)) return;
     if (!moment_of(values[2], false, &from, &error)) {
@@ -309,7 +373,7 @@ static void sql_apart(sqlite3_context *context, int count, sqlite3_value **value
         return;
     }
     uint32_t answer = compared(context, values, from.second, &apart);
-    if (answer == GTD_NO) result_moment(context, apart.second, from.form);
+    if (answer == GTD_NO) result_moment(context, apart, from.form);
     else if (answer != GTD_YES && answer != GTD_KIND) refuse_answer(context, answer, APART);
 }
 
@@ -321,33 +385,37 @@ static void result_change(sqlite3_context *context, uint32_t answer, int64_t cha
 
 static void sql_next(sqlite3_context *context, int count, sqlite3_value **values)
 {
-    gtd_handle *domain;
+    kept *it;
     moment from, until;
     int64_t change;
     char *error;
-    if (any_null(count, values) || !(domain = domain_of(context, values))) return;
+    if (any_null(count, values) || !(it = kept_of(context, values, 0))) return;
     if (!moment_of(values[1], false, &from, &error) || !moment_of(values[2], true, &until, &error)) {
         refuse(context, error);
         return;
     }
-    uint32_t answer = GTD_RANGE;
-    if (from.second < until.second) answer = gtd_domain_next(domain, from.second, day_from(until.second), &change);
-    if (answer == GTD_YES && change >= until.second) answer = GTD_NO;
+    connection on = { .db = sqlite3_context_db_handle(context) };
+    asked_domain domain = { &it->handle, it->recurs };
+    uint32_t answer = next_change(domain, from.second, until.second, (stopping){ stops, &on }, &change);
+    end_checks(&on);
     result_change(context, answer, change, from.form, HORIZON);
 }
 
 static void sql_ever(sqlite3_context *context, int count, sqlite3_value **values)
 {
-    gtd_handle *domain;
+    kept *it;
     moment from;
     int64_t change;
     char *error;
-    if (any_null(count, values) || !(domain = domain_of(context, values))) return;
+    if (any_null(count, values) || !(it = kept_of(context, values, 0))) return;
     if (!moment_of(values[1], false, &from, &error)) {
         refuse(context, error);
         return;
     }
-    uint32_t answer = gtd_domain_ever(domain, from.second, &change);
+    connection on = { .db = sqlite3_context_db_handle(context) };
+    asked_domain domain = { &it->handle, it->recurs };
+    uint32_t answer = next_ever(domain, from.second, (stopping){ stops, &on }, &change);
+    end_checks(&on);
     result_change(context, answer, change, from.form, EVER);
 }
 
@@ -427,18 +495,21 @@ enum { BEGINS, ENDS, ARGUMENT, ARGUMENTS = 3 };
 typedef struct {
     sqlite3_vtab base;
     shelf *shelf;
+    sqlite3 *db;
 } spans_table;
 
 typedef struct {
     sqlite3_vtab_cursor base;
+    kept *domain;
+    span_walk walk;
     gtd_handle spans;
     sqlite3_value *given[ARGUMENTS];
     form form;
-    int64_t since, until, begins, ends, row;
+    int64_t begins, ends, row;
     bool is_over;
 } spans_cursor;
 
-static int connect_spans(sqlite3 *db, void *shelf, int count, const char *const *words, sqlite3_vtab **out, char **error)
+static int connect_spans(sqlite3 *db, void *on, int count, const char *const *words, sqlite3_vtab **out, char **error)
 {
     (void)count, (void)words, (void)error;
     /* Names that a table of domains will hardly have, since they would hide its columns in the arguments. */
@@ -447,7 +518,7 @@ static int connect_spans(sqlite3 *db, void *shelf, int count, const char *const 
     if (status != SQLITE_OK) return status;
     spans_table *table = sqlite3_malloc64(sizeof *table);
     if (!table) return SQLITE_NOMEM;
-    *table = (spans_table){ .shelf = shelf };
+    *table = (spans_table){ .shelf = on, .db = db };
     *out = &table->base;
     return sqlite3_vtab_config(db, SQLITE_VTAB_INNOCUOUS);
 }
@@ -503,6 +574,8 @@ static void reset_spans(spans_cursor *cursor)
         cursor->given[at] = NULL;
     }
     gtd_close(&cursor->spans);
+    if (cursor->domain) release_kept(cursor->domain);
+    cursor->domain = NULL;
     cursor->is_over = true;
     cursor->row = 0;
 }
@@ -514,26 +587,24 @@ static int close_spans(sqlite3_vtab_cursor *given)
     return SQLITE_OK;
 }
 
-/* The next span of the days, cut to what lies between the moments. */
-static int next_span(sqlite3_vtab_cursor *given)
-{
-    spans_cursor *cursor = (spans_cursor *)given;
-    do {
-        cursor->is_over = gtd_spans_next(&cursor->spans, &cursor->begins, &cursor->ends) != GTD_YES
-                          || cursor->begins >= cursor->until;
-    } while (!cursor->is_over && cursor->ends <= cursor->since);
-    if (cursor->begins < cursor->since) cursor->begins = cursor->since;
-    if (cursor->ends > cursor->until) cursor->ends = cursor->until;
-    cursor->row++;
-    return SQLITE_OK;
-}
-
 static int fail_spans(spans_cursor *cursor, char *error)
 {
     if (!error) return SQLITE_NOMEM;
     sqlite3_free(cursor->base.pVtab->zErrMsg);
     cursor->base.pVtab->zErrMsg = error;
     return SQLITE_ERROR;
+}
+
+static int next_span(sqlite3_vtab_cursor *given)
+{
+    spans_cursor *cursor = (spans_cursor *)given;
+    connection on = { .db = ((spans_table *)given->pVtab)->db };
+    uint32_t answer = next_span_of(&cursor->walk, (stopping){ stops, &on }, &cursor->begins, &cursor->ends);
+    end_checks(&on);
+    cursor->is_over = answer != GTD_YES;
+    cursor->row++;
+    if (answer == STOPPED) return SQLITE_INTERRUPT;
+    return answer == GTD_YES || answer == GTD_NO ? SQLITE_OK : fail_spans(cursor, NULL);
 }
 
 static int filter_spans(sqlite3_vtab_cursor *given, int number, const char *text, int count, sqlite3_value **values)
@@ -546,19 +617,18 @@ static int filter_spans(sqlite3_vtab_cursor *given, int number, const char *text
     if (any_null(count, values)) return SQLITE_OK;
     part domain = text_of(values[0]);
     reading why;
+    if (domain.length > MOST_TEXT) return fail_spans(cursor, sqlite3_mprintf(TOO_LONG));
     kept *it = keep(((spans_table *)given->pVtab)->shelf, domain, false, &why);
     if (!it) return fail_spans(cursor, why.answer == GTD_NO ? domain_error(&why.fault.text, domain) : NULL);
     moment since, until;
     char *error;
     if (!moment_of(values[1], true, &since, &error) || !moment_of(values[2], true, &until, &error))
         return fail_spans(cursor, error);
-    uint32_t answer = GTD_RANGE;
-    if (since.second < until.second)
-        answer = gtd_domain_spans(&it->handle, day_of(since.second), day_from(until.second), &cursor->spans);
-    if (answer != GTD_YES) return fail_spans(cursor, answer == GTD_RANGE ? sqlite3_mprintf(HORIZON) : NULL);
+    if (!open_walk((asked_domain){ &it->handle, it->recurs }, since.second, until.second, &cursor->spans, &cursor->walk))
+        return fail_spans(cursor, sqlite3_mprintf(HORIZON));
+    it->holders++; /* the windows to come need it, whatever the shelf keeps then */
+    cursor->domain = it;
     cursor->form = since.form;
-    cursor->since = since.second;
-    cursor->until = until.second;
     return next_span(given);
 }
 
@@ -616,7 +686,8 @@ static const struct {
 };
 
 /* The name that SQLite looks for in a file mod_gtd.so. */
-__attribute__((visibility("default"))) int sqlite3_modgtd_init(sqlite3 *db, char **error, const sqlite3_api_routines *api)
+__attribute__((visibility("default"))) int sqlite3_modgtd_init(sqlite3 *db, char **error, const sqlite3_api_routines *api);
+int sqlite3_modgtd_init(sqlite3 *db, char **error, const sqlite3_api_routines *api)
 {
     SQLITE_EXTENSION_INIT2(api);
     (void)error;

@@ -15,6 +15,7 @@ import sys
 import time
 
 from checks import Checks
+from long import ANSWERS, NIGHTS, QUESTIONS, nights
 from server import ASKED, Server, quoted
 
 EPOCH = datetime.datetime(1970, 1, 1)
@@ -366,6 +367,79 @@ def check_ends(server):
     check_kept(server, "roads")
 
 
+def long_call(call, words):
+    """A call whose moments are texts."""
+    return f"gtd_{call}({', '.join(map(quoted, words))})"
+
+
+def check_long(server):
+    """Answers of many windows; texts that are too long."""
+    rights = {True: "true", False: "false"}
+    check_answers(server, [(f"SELECT {long_call(call, words)}", rights.get(right, right)) for call, words, right in ANSWERS])
+    spans = "SELECT string_agg(begins || ' until ' || ends, ', ') FROM "
+    found = ", ".join(f"{begin} until {end}" for begin, end in nights(1, 50))
+    asked = [NIGHTS, "2024-01-01 12:00:00", "2024-02-20 12:00:00"]
+    check_answers(server, [(f"{spans}{long_call('spans', asked)}", found)])
+    many = "'(h1)' || repeat(' ', 1048573)"
+    check_answers(server, [(f"SELECT gtd_{call}({many})", "error 54000|the text has more than 1,048,576 bytes||")
+                           for call in ("check", "canon", "words", "hours")])
+    check_answers(server, [("SELECT gtd_canon('(h1){h1}' || repeat(' ', 1048568))", "[(h1){h1}]")])
+
+
+def check_stopped(server):
+    """Long questions end soon after they are cancelled or their time is over, also while the server plans a query of constants;
+    and then the same session goes on."""
+    for number, (call, words) in enumerate(QUESTIONS):
+        query = f"SELECT {'count(*) FROM ' if call == 'spans' else ''}{long_call(call, words)}"
+        for front in ("", "EXPLAIN "):
+            if front and call == "spans":
+                continue  # a function in FROM is not computed by the planner
+            begin = time.monotonic()
+            done = subprocess.run(
+                server.client("psql", "roads", "-XAtc", "SET statement_timeout = '300ms'", "-c", front + query, "-c",
+                              "SELECT gtd_canon('(h1){m60}')"), capture_output=True, text=True, timeout=60)
+            passed = time.monotonic() - begin
+            check("canceling statement due to statement timeout" in done.stderr and done.stdout.endswith("[(h1){m60}]\n")
+                  and passed < 5, f"{front}question {number}: {done.stdout} {done.stderr[:200]} after {passed:.1f} s")
+        name = f"long {number}"
+        client = subprocess.Popen(server.client("psql", "roads", "-Xc", f"SET application_name = '{name}'", "-c", query),
+                                  stdout=subprocess.DEVNULL, stderr=subprocess.PIPE, text=True)
+        process = active(server, name)
+        server.psql(f"SELECT pg_cancel_backend({process})")
+        begin = time.monotonic()
+        said = client.communicate(timeout=60)[1]
+        passed = time.monotonic() - begin
+        is_cancelled = "canceling statement due to user request" in said
+        check(is_cancelled and passed < 5, f"cancelled question {number}: {said} after {passed:.1f} s")
+
+
+def active(server, name):
+    """The number of the process in which a session with this name asks a long question."""
+    for _ in range(400):
+        found = server.psql("SELECT pid FROM pg_stat_activity "
+                            f"WHERE application_name = '{name}' AND state = 'active' AND query LIKE '%gtd_%'")
+        if found:
+            time.sleep(0.2)
+            return int(found)
+        time.sleep(0.05)
+    raise RuntimeError(f"{name} does not begin")
+
+
+def check_rows(server):
+    """The memory of each row of gtd_spans ends with it: three million rows of texts take as much as 300,000."""
+    script = """
+CREATE FUNCTION pg_temp.peak() RETURNS bigint LANGUAGE sql AS
+$$ SELECT (regexp_match(pg_read_file('/proc/self/status'), 'VmHWM:\\s+(\\d+)'))[1]::bigint $$;
+SELECT count(*) FROM gtd_spans('(s0){s1}', '2024-01-01', '2024-08-01');
+SELECT pg_temp.peak() AS before \\gset
+SELECT count(*) FROM gtd_spans('(s0){s1}', '2024-01-01', '2030-01-01');
+SELECT pg_temp.peak() - :before;
+"""
+    few, many, grown = server.psql(script, user="postgres").split("\n")
+    check((int(few), int(many)) == (213 * 1440, 2192 * 1440), f"{few} and {many} rows")
+    check(int(grown) < 5000, f"rows of gtd_spans: a backend grew by {grown} KiB")
+
+
 def check_memory(server):
     """A backend that reads many texts, or fails again and again, keeps little."""
     script = """
@@ -416,6 +490,9 @@ def main():
         check_closed(server)
         check_schema(server)
         check_ends(server)
+        check_long(server)
+        check_stopped(server)
+        check_rows(server)
         check_memory(server)
         check_dump(server)
     return check.end()

@@ -9,8 +9,11 @@ import json
 import re
 import sqlite3
 import sys
+import threading
+import time
 
 from checks import Checks
+from long import ANSWERS, NIGHTS, QUESTIONS, nights
 
 MOMENTS = ("YYYY-MM-DDThh:mm:ss, or a space in place of the T, or whole seconds since 1970-01-01T00:00:00; "
            "from 1901-01-01 up to 2700-01-01")
@@ -303,6 +306,56 @@ def check_closed(base):
     check(found == [(1, 1), (2, 0)], f"closed by groups: {found}")
 
 
+def check_long(base):
+    """Answers of many windows."""
+    for call, words, right in ANSWERS:
+        found = answer_of(base, f"SELECT gtd_{call}({', '.join('?' * len(words))})", words)
+        check(found == [(right if right is None or isinstance(right, str) else int(right),)], f"{call} {words}: {found}")
+    spans = "SELECT begins, ends FROM gtd_spans(?, ?, ?)"
+    found = answer_of(base, spans, [NIGHTS, "2024-01-01 12:00:00", "2024-02-20 12:00:00"])
+    check(found == nights(1, 50), f"nights: {found}")
+    found = answer_of(base, spans, [NIGHTS, "2024-01-01 23:00:00", "2024-01-03 01:00:00"])
+    cut = [("2024-01-01 23:00:00", "2024-01-02 02:00:00"), ("2024-01-02 22:00:00", "2024-01-03 01:00:00")]
+    check(found == cut, f"nights that are cut: {found}")
+    for call in ("check", "canon", "words", "hours"):
+        found = answer_of(base, f"SELECT gtd_{call}(?)", ["(h1)" + " " * 1_048_573])
+        check(found == "the text has more than 1,048,576 bytes", f"{call} of a long text: {found}")
+    check(one(base, "SELECT gtd_canon(?)", "(h1){h1}" + " " * 1_048_568) == "[(h1){h1}]", "a text of the greatest length")
+    found = answer_of(base, spans, ["(h1){h1}" + " " * 1_048_569, 0, 1])
+    check(found == "the text has more than 1,048,576 bytes", f"spans of a long text: {found}")
+
+
+def check_stopped(extension):
+    """Long questions end soon after they are interrupted, and after a progress handler says so; then the connection is as it was.
+    An authorizer that refuses the statement by which this is found out stops nothing else."""
+    for number, (call, words) in enumerate(QUESTIONS):
+        query = f"SELECT {'count(*) FROM ' if call == 'spans' else ''}gtd_{call}({', '.join('?' * len(words))})"
+        for is_interrupted in (True, False):
+            base = sqlite3.connect(":memory:", isolation_level=None, check_same_thread=False)
+            base.enable_load_extension(True)
+            base.load_extension(extension)
+            begin = time.monotonic()
+            if is_interrupted:
+                timer = threading.Timer(0.3, base.interrupt)
+                timer.start()
+            else:
+                base.set_progress_handler(lambda: time.monotonic() > begin + 0.3, 100_000 if number % 2 else 1_000)
+            found = answer_of(base, query, words)
+            passed = time.monotonic() - begin
+            how = "interrupted" if is_interrupted else "by a progress handler"
+            check(found == "interrupted" and 0.3 <= passed < 5, f"question {number} {how}: {found} after {passed:.1f} s")
+            if is_interrupted:
+                timer.join()
+            base.set_progress_handler(None, 0)
+            check(one(base, "SELECT gtd_canon('(h1){m60}')") == "[(h1){m60}]", f"after question {number}")
+            base.close()
+    base = opened(extension)
+    base.set_authorizer(lambda action, *_: sqlite3.SQLITE_DENY if action == sqlite3.SQLITE_RECURSIVE else sqlite3.SQLITE_OK)
+    check(one(base, "SELECT gtd_next('(s0){s1}*(M2d29){d1}*(M3d1){d1}', '2024-01-01 00:00:00', '2124-01-01')") is None,
+          "an authorizer that refuses recursion")
+    base.close()
+
+
 def main():
     extension = sys.argv[1].removesuffix(".so")
     with open(sys.argv[2], encoding="ascii") as file:
@@ -319,7 +372,9 @@ def main():
     check_spans(base)
     check_schema(base)
     check_closed(base)
+    check_long(base)
     base.close()
+    check_stopped(extension)
     for _ in range(3):
         opened(extension).close()
     return check.end()
