@@ -111,7 +111,7 @@ expect 'no rows' 0 "$header" "$no_row"
 "$program" now none.csv 2024-04-01T10:00:00 11 > out 2> /dev/full
 status=$?
 : > err
-expect 'a note that is not told' 0 "$header" ''
+expect 'a note that is not told' 3 "$header" ''
 
 run now a.csv none.csv 2024-04-01T10:00:00 11
 expect 'two files' 0 "$header"$'\n'"$at_ten"$'\n'"$always"$'\n'"$header" "$no_row"
@@ -435,6 +435,20 @@ expect 'a full output for records' 3 '' 'gtdesk: standard output: cannot be writ
 status=$?
 : > err
 expect 'a full output for the faults of hours' 1 '' ''
+
+# Warnings that are lost: all is printed, and the status says so. Without warnings nothing is lost.
+"$program" hours 'Mo 8:00-9:00' > out 2> /dev/full
+status=$?
+: > err
+expect 'a full output for a warning' 3 '[[(t2h0m0){d1}]*[(h8m0){m60}]]' ''
+"$program" hours 'Mo 08:00-09:00' > out 2> /dev/full
+status=$?
+expect 'a full output for no warning' 0 '[[(t2h0m0){d1}]*[(h8m0){m60}]]' ''
+printf 'element;direction;vehicle;domain\n17;both;0;\n' > semicolons.csv
+"$program" mend semicolons.csv > out 2> /dev/full
+status=$?
+expect 'a full output for changes' 3 'element,direction,vehicle,domain
+17,both,0,' ''
 
 # Rules that hold all day, and hidden hours beside holidays.
 run hours 'Mo, Dec 24 off'

@@ -3,11 +3,14 @@
 # file, each read, each write to standard output and each to standard error, one after the other.
 #
 #   A call that is interrupted, or moves a single byte, changes nothing; nor do 999 interruptions of each (50 of standard error).
+#   A pipe that is not ready changes nothing of gtdesk, which waits, but that the line of a refusal may be lost; for gtd it is
+#   another error.
 #   1,000 interruptions of a read in a row are `Endless`. Another error of a read is `ReadFault`. One of an open is `Open`, or
 #   `NoMemory` if memory was refused. Nothing is printed then.
 #   Another error of a write to standard output is `WriteFault`, after a first part of what is printed. This may be all of it: at
 #   its end a program writes once more what is left in its buffer. If that fails too, exactly what was taken before is printed.
-#   Another error of standard error changes neither the status nor what is printed. Only a first part of the line is told.
+#   Another error of standard error does not change what is printed. Only a first part of the line is told. A status of 0 becomes
+#   3, since a warning was lost; others stay.
 #
 # Run it after `rt ci`, which builds the programs; GTD and GTDESK in the environment name others. It needs a C compiler.
 set -u
@@ -24,7 +27,7 @@ trap 'rm -rf "$room"' EXIT
 "${CC:-cc}" -O2 -shared -fPIC -o "$room/fail.so" "$here/fail_call.c" || exit 1
 cd "$room" || exit 1
 passed=0 failed=0
-declare -A line_of calls
+declare -A line_of waits_or calls
 
 # run CALL TIMES ERROR [ROOM]: runs the command with these calls failing (see fail_call.c). If there was no such call, the file
 # `met` is empty.
@@ -51,11 +54,13 @@ is_start() {
     [ "$1" = "$2" ] || [ "$1" = "${2:0:${#1}}" ]
 }
 
-# ended HOW: the last run ended like this: the `same` as without failures, with the line `untold`, or by a fault.
+# ended HOW: the last run ended like this: the `same` as without failures, with a line or a warning `untold`, either of these two,
+# or by a fault.
 ended() {
     case $1 in
         same) [ "$status" = "$whole_status" ] && [ "$printed" = "$whole" ] && [ "$told" = "$whole_told" ] ;;
-        untold) [ "$status" = "$whole_status" ] && [ "$printed" = "$whole" ] && is_start "$told" "${whole_told%?}" ;;
+        untold) [ "$status" = "$((whole_status ? whole_status : 3))" ] && [ "$printed" = "$whole" ] && is_start "$told" "${whole_told%?}" ;;
+        told_or_not) ended same || ended untold ;;
         WriteFault) [ "$status" = 3 ] && is_start "$printed" "$whole" && [ "$told" = "${line_of[$1]}"$'\n' ] ;;
         *) [ "$status" = 3 ] && [ "$printed" = '' ] && [ "$told" = "${line_of[$1]}"$'\n' ] ;;
     esac
@@ -91,7 +96,8 @@ try_read() {
     local error
     moves_on "$1" 999
     try Endless "$1" 1000 EINTR
-    for error in EAGAIN EBADF EIO ETIMEDOUT; do
+    try "${waits_or[ReadFault]}" "$1" 1 EAGAIN
+    for error in EBADF EIO ETIMEDOUT; do
         try ReadFault "$1" 1 $error
     done
     try ReadFault "$1" 0 EIO
@@ -100,7 +106,8 @@ try_read() {
 # fails_to_write CALL HOW: a write fails, and the command ends like this.
 fails_to_write() {
     local error
-    for error in none EAGAIN EBADF EIO ENOSPC EPIPE; do
+    try "${waits_or[$2]}" "$1" 1 EAGAIN
+    for error in none EBADF EIO ENOSPC EPIPE; do
         try "$2" "$1" 1 $error
     done
     try "$2" "$1" 0 EIO
@@ -167,6 +174,7 @@ try_command() {
 
 gtd() {
     name=gtd program=$gtd
+    waits_or=([ReadFault]=ReadFault [WriteFault]=WriteFault [untold]=untold)
     line_of=([Open]='fault Open' [NoMemory]='fault NoMemory' [ReadFault]='fault ReadFault' [Endless]='fault Endless'
         [WriteFault]='fault WriteFault')
     try_command "$@"
@@ -179,6 +187,7 @@ gtdesk() {
     read_at=$at
     [ "${2-}" != ask ] || read_at='gtdesk: standard input:'
     name=gtdesk program=$gtdesk
+    waits_or=([ReadFault]=same [WriteFault]=same [untold]=told_or_not)
     line_of=([Open]="$at cannot be opened" [NoMemory]='gtdesk: memory: refused by the system' [ReadFault]="$read_at ReadFault"
         [Endless]="$read_at Endless" [WriteFault]='gtdesk: standard output: cannot be written')
     try_command "$@"

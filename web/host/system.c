@@ -22,6 +22,7 @@ int close(int file) { return (void)file, 0; }
 answer read(int file, void *into, size_t room) { return (void)file, page_read(into, room); }
 answer write(int file, const void *bytes, size_t count) { return page_write(file, bytes, count); }
 int clock_gettime(int clock, void *into) { return (void)clock, (void)into, -1; }
+int nanosleep(const void *wanted, void *left) { return (void)wanted, (void)left, 0; }
 void *__sysv_signal(int number, void *action) { return (void)number, action; }
 
 extern int gtdesk_main(void);

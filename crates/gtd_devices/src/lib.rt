@@ -10,10 +10,12 @@ pub use device::{Input, Output, Pull, Put};
 pub use host::Host;
 pub use host_out::HostOut;
 pub use memory::{MemoryIn, MemoryOut};
+pub use waiting::Waiting;
 pub use whole::{InputFault, read_whole};
 
 mod device;
 mod host;
 mod host_out;
 mod memory;
+mod waiting;
 mod whole;

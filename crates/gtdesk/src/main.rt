@@ -5,13 +5,13 @@
 //! It writes its answer to standard output and ends with status 0, or 1 if it listed faults, or 4 if the two differ; faults of
 //! a file of opening hours go to standard error. Or it writes one line to standard error, with the text at fault below it, and
 //! ends with the status of its refusal: 1 if the input is refused, 2 for usage, 3 if opening, reading, writing or memory
-//! failed.
+//! failed. A warning that standard error did not take ends with 3, too, after the whole answer.
 #![tactic(auto)]
 
 ghost use Rattle.std.specs.Prelude.{◌≡◌, IfOk, IfSome};
 ghost use Rattle.gtdesk_tool.specs.GivenOptions.{AreOptionsIn, AreOptionsOf, path_of};
 
-use gtd_devices::{Host, HostOut, InputFault, read_whole};
+use gtd_devices::{Host, HostOut, InputFault, Output, Waiting, read_whole};
 use gtdesk_tool::{
     ConditionsPlan, ConditionsTurn, DiffPlan, Ending, Files, HoursOptions, LineRefusal, Moment,
     OnePlan, Plan, PlanOptions, ReadTable, Refusal, RefusalLines, RunRefusal, Turn, WordsRefusal,
@@ -30,6 +30,27 @@ const OUTPUT_BUFFER: usize = 65_536;
 
 // How many bytes the file of a time zone has at most: far more than any has.
 const MOST_ZONE_BYTES: usize = 1_048_576;
+
+/// The status of a run whose warnings were lost.
+const WARNINGS_LOST: u8 = 3;
+
+// How a run ended, and whether standard error took all its warnings.
+#[derive(Clone, Copy)]
+struct Ran {
+    ending: Ending,
+    warned: bool,
+}
+
+// How a run ended whose output for errors has failed so often.
+fn ended_with(answer: Result<Ending, RunRefusal>, failures: u64) -> Result<Ran, RunRefusal> {
+    match answer {
+        Ok(ending) => Ok(Ran {
+            ending,
+            warned: failures == 0,
+        }),
+        Err(refusal) => Err(refusal),
+    }
+}
 
 // The words after the program's name. A word that is not UTF-8 is a fault of usage.
 fn words_of(rt: &HostRuntime) -> Result<Vec<String>, WordsRefusal> {
@@ -55,20 +76,21 @@ fn open(rt: &HostRuntime, path: &str) -> Result<File, RunRefusal> {
 }
 
 // Carries the plan out for the file of this path, from a reader to standard output.
-fn print<R: Read + Drop>(
-    rt: &HostRuntime,
-    turn: Turn<'_>,
-    reader: R,
-) -> Result<Ending, RunRefusal> {
-    let mut input = Host::new(reader);
-    let made = BufWriter::with_capacity(rt.alloc(), OUTPUT_BUFFER, io::writer(rt));
+fn print<R: Read + Drop>(rt: &HostRuntime, turn: Turn<'_>, reader: R) -> Result<Ran, RunRefusal> {
+    let mut input = Host::new(Waiting::reader(reader, rt));
+    let made = BufWriter::with_capacity(
+        rt.alloc(),
+        OUTPUT_BUFFER,
+        Waiting::writer(io::writer(rt), rt),
+    );
     let mut output = HostOut::new(made.map_err(|_| RunRefusal::Memory)?);
-    let mut errors = HostOut::new(rt.stderr());
-    perform(rt.alloc(), turn, &mut input, &mut output, &mut errors)
+    let mut errors = HostOut::new(Waiting::writer(rt.stderr(), rt));
+    let answer = perform(rt.alloc(), turn, &mut input, &mut output, &mut errors);
+    ended_with(answer, errors.failures())
 }
 
 // Carries a plan out for the file of this path.
-fn run_file(rt: &HostRuntime, turn: Turn<'_>) -> Result<Ending, RunRefusal> {
+fn run_file(rt: &HostRuntime, turn: Turn<'_>) -> Result<Ran, RunRefusal> {
     match turn.path {
         "-" => print(rt, turn, rt.stdin()),
         path => print(rt, turn, open(rt, path)?),
@@ -85,6 +107,7 @@ fn run_files<'a>(
     requires given { AreOptionsIn plan.now options.now }
 {
     let mut ended = Ok(Ending::Done);
+    let mut warned = true;
     for path in paths {
         let path = path.as_str();
         let answer = run_file(
@@ -95,15 +118,24 @@ fn run_files<'a>(
                 options,
             },
         );
-        if let Err(refusal) = answer {
-            tell(rt, Refusal::Run(refusal), path, "");
-        }
-        ended = joined(ended, answer);
-        if answer == Err(RunRefusal::Write) {
-            break;
+        match answer {
+            Ok(ran) => {
+                warned = warned && ran.warned;
+                ended = joined(ended, Ok(ran.ending));
+            }
+            Err(refusal) => {
+                tell(rt, Refusal::Run(refusal), path, "");
+                ended = joined(ended, Err(refusal));
+                if refusal == RunRefusal::Write {
+                    break;
+                }
+            }
         }
     }
-    status_of(ended)
+    match ended {
+        Ok(ending) => status_of(Ok(Ran { ending, warned })),
+        Err(refusal) => status_of(Err(refusal)),
+    }
 }
 
 // The table of holidays of this path, from a reader; or none, if its faults were told.
@@ -114,8 +146,8 @@ fn table_from<'a, R: Read + Drop>(
 ) -> Result<Option<ReadTable<'a>>, RunRefusal>
     ensures named { IfOk result (λ found. IfSome found (λ table. path_of table ≡ path.now)) }
 {
-    let mut input = Host::new(reader);
-    let mut errors = HostOut::new(rt.stderr());
+    let mut input = Host::new(Waiting::reader(reader, rt));
+    let mut errors = HostOut::new(Waiting::writer(rt.stderr(), rt));
     read_plan_table(rt.alloc(), &mut input, &mut errors, path)
 }
 
@@ -167,8 +199,7 @@ fn run_with<'a>(rt: &HostRuntime, plan: &'a OnePlan, options: &'a PlanOptions<'a
                 path,
                 options,
             };
-            let answer = run_file(rt, turn);
-            finish(rt, answer, path, plan.hours_text())
+            finish(rt, run_file(rt, turn), path, plan.hours_text())
         }
         Files::None => {
             let path = "";
@@ -177,8 +208,7 @@ fn run_with<'a>(rt: &HostRuntime, plan: &'a OnePlan, options: &'a PlanOptions<'a
                 path,
                 options,
             };
-            let answer = print(rt, turn, io::empty());
-            finish(rt, answer, path, plan.hours_text())
+            finish(rt, print(rt, turn, io::empty()), path, plan.hours_text())
         }
     }
 }
@@ -190,9 +220,13 @@ fn print_diff<R: Read + Drop, S: Read + Drop>(
     old: R,
     new: S,
 ) -> Result<Ending, RunRefusal> {
-    let mut old = Host::new(old);
-    let mut new = Host::new(new);
-    let made = BufWriter::with_capacity(rt.alloc(), OUTPUT_BUFFER, io::writer(rt));
+    let mut old = Host::new(Waiting::reader(old, rt));
+    let mut new = Host::new(Waiting::reader(new, rt));
+    let made = BufWriter::with_capacity(
+        rt.alloc(),
+        OUTPUT_BUFFER,
+        Waiting::writer(io::writer(rt), rt),
+    );
     let mut output = HostOut::new(made.map_err(|_| RunRefusal::Memory)?);
     perform_diff(rt.alloc(), plan, &mut old, &mut new, &mut output)
 }
@@ -219,9 +253,13 @@ fn open_old(rt: &HostRuntime, path: &str) -> Result<File, RunRefusal> {
 
 // Answers the questions on standard input about the record file of a reader.
 fn print_answers<R: Read + Drop>(rt: &HostRuntime, records: R) -> Result<Ending, RunRefusal> {
-    let mut questions = Host::new(rt.stdin());
-    let mut records = Host::new(records);
-    let made = BufWriter::with_capacity(rt.alloc(), OUTPUT_BUFFER, io::writer(rt));
+    let mut questions = Host::new(Waiting::reader(rt.stdin(), rt));
+    let mut records = Host::new(Waiting::reader(records, rt));
+    let made = BufWriter::with_capacity(
+        rt.alloc(),
+        OUTPUT_BUFFER,
+        Waiting::writer(io::writer(rt), rt),
+    );
     let mut output = HostOut::new(made.map_err(|_| RunRefusal::Memory)?);
     perform_ask(rt.alloc(), &mut questions, &mut records, &mut output)
 }
@@ -279,7 +317,7 @@ fn run_both(rt: &HostRuntime, plan: &DiffPlan) -> ExitCode {
         Err(refusal) => refused_file(plan, refusal),
         Ok(_) => "",
     };
-    finish(rt, answer, path, "")
+    finish(rt, ended_with(answer, 0), path, "")
 }
 
 // Carries the plan of `conditions` out, from two readers to standard output.
@@ -288,20 +326,25 @@ fn print_conditions<R: Read + Drop, S: Read + Drop>(
     turn: ConditionsTurn<'_>,
     tags: R,
     means: S,
-) -> Result<Ending, RunRefusal> {
-    let mut tags = Host::new(tags);
-    let mut means = Host::new(means);
-    let made = BufWriter::with_capacity(rt.alloc(), OUTPUT_BUFFER, io::writer(rt));
+) -> Result<Ran, RunRefusal> {
+    let mut tags = Host::new(Waiting::reader(tags, rt));
+    let mut means = Host::new(Waiting::reader(means, rt));
+    let made = BufWriter::with_capacity(
+        rt.alloc(),
+        OUTPUT_BUFFER,
+        Waiting::writer(io::writer(rt), rt),
+    );
     let mut output = HostOut::new(made.map_err(|_| RunRefusal::Memory)?);
-    let mut errors = HostOut::new(rt.stderr());
-    perform_conditions(
+    let mut errors = HostOut::new(Waiting::writer(rt.stderr(), rt));
+    let answer = perform_conditions(
         rt.alloc(),
         turn,
         &mut tags,
         &mut means,
         &mut output,
         &mut errors,
-    )
+    );
+    ended_with(answer, errors.failures())
 }
 
 // The table of means.
@@ -317,7 +360,7 @@ fn run_conditions<R: Read + Drop>(
     rt: &HostRuntime,
     turn: ConditionsTurn<'_>,
     tags: R,
-) -> Result<Ending, RunRefusal> {
+) -> Result<Ran, RunRefusal> {
     match turn.plan.means.as_str() {
         "-" => print_conditions(rt, turn, tags, rt.stdin()),
         path => print_conditions(rt, turn, tags, open_means(rt, path)?),
@@ -325,7 +368,7 @@ fn run_conditions<R: Read + Drop>(
 }
 
 // Carries the plan of `conditions` out, from the paths of its files.
-fn run_tags(rt: &HostRuntime, turn: ConditionsTurn<'_>) -> Result<Ending, RunRefusal> {
+fn run_tags(rt: &HostRuntime, turn: ConditionsTurn<'_>) -> Result<Ran, RunRefusal> {
     match turn.plan.tags.as_str() {
         "-" => run_conditions(rt, turn, rt.stdin()),
         path => run_conditions(rt, turn, open(rt, path)?),
@@ -362,14 +405,23 @@ fn run(rt: &HostRuntime, plan: Plan) -> ExitCode {
         Plan::NowIn(plan) => run_zone(rt, plan),
         Plan::Diff(plan) => run_both(rt, &plan),
         Plan::Conditions(plan) => run_tags_and_means(rt, &plan),
-        Plan::Ask(path) => finish(rt, run_ask(rt, path.as_str()), path.as_str(), ""),
+        Plan::Ask(path) => {
+            let answer = run_ask(rt, path.as_str());
+            finish(rt, ended_with(answer, 0), path.as_str(), "")
+        }
     }
 }
 
-// The status of an answer.
-fn status_of(answer: Result<Ending, RunRefusal>) -> ExitCode {
+// The status of an answer. Where a refusal or a difference has a status of its own, lost warnings change nothing.
+fn status_of(answer: Result<Ran, RunRefusal>) -> ExitCode {
     match answer {
-        Ok(ending) => ExitCode::from(ending.status()),
+        Ok(ran) => {
+            if !ran.warned && ran.ending == Ending::Done {
+                ExitCode::from(WARNINGS_LOST)
+            } else {
+                ExitCode::from(ran.ending.status())
+            }
+        }
         Err(refusal) => ExitCode::from(refusal.status()),
     }
 }
@@ -385,12 +437,7 @@ fn tell(rt: &HostRuntime, refusal: Refusal, file: &str, text: &str) {
 }
 
 // The status of an answer. If it is a refusal about the file of this path, or about this text, its lines are written.
-fn finish(
-    rt: &HostRuntime,
-    answer: Result<Ending, RunRefusal>,
-    path: &str,
-    text: &str,
-) -> ExitCode {
+fn finish(rt: &HostRuntime, answer: Result<Ran, RunRefusal>, path: &str, text: &str) -> ExitCode {
     if let Err(refusal) = answer {
         tell(rt, Refusal::Run(refusal), path, text);
     }
