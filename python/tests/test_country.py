@@ -10,7 +10,7 @@ import pytest
 import gtd
 from gtd import country
 from gtd._claims import take
-from gtd.country import _parts, _run
+from gtd.country import _files, _parts, _run
 from gtd.country.__main__ import main
 from tests.conftest import FIRST, UNTIL, VEHICLE, by_hand, command, joined
 
@@ -138,6 +138,21 @@ def test_faults_of_packed_files(client, tmp_path):
         with pytest.raises(OSError, match="all.csv.gz is no whole gzip file"):
             country.schedule(path, *DAYS, tmp_path / "out", client=client)
     assert os.listdir(tmp_path) == ["all.csv.gz"]
+
+
+def test_how_much_is_unpacked(tmp_path, monkeypatch):
+    """A file that holds more than may be unpacked is refused before that is written."""
+    path, into = tmp_path / "all.csv.gz", tmp_path / "all.csv"
+    text = b"element,direction,vehicle,domain\n" + b"1,both,0,\n" * 1_000_000
+    path.write_bytes(gzip.compress(text))
+    (source,) = _files.sources([str(path)])
+    monkeypatch.setattr(_files, "MOST_UNPACKED", len(text))
+    _files.unpack(source, into)
+    assert into.read_bytes() == text
+    monkeypatch.setattr(_files, "MOST_UNPACKED", 3_000_000)
+    with pytest.raises(OSError, match=r"all.csv.gz holds more than 3,000,000 bytes, which is the most that is unpacked"):
+        _files.unpack(source, into)
+    assert into.stat().st_size <= 3_000_000
 
 
 def test_many_vehicle_types(client, many, tmp_path):

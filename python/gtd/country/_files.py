@@ -5,7 +5,6 @@ from __future__ import annotations
 import gzip
 import os
 import re
-import shutil
 import zlib
 from dataclasses import dataclass
 from pathlib import Path
@@ -16,6 +15,9 @@ from fsspec.implementations.local import LocalFileSystem
 from fsspec.utils import read_block
 
 from gtd._program import LARGEST_FILE
+
+MOST_UNPACKED = 1 << 34
+"""Bytes that are unpacked of a file at most: a small file may hold any number of them."""
 
 _PATTERN = re.compile(r"[*?[]")
 _MARK = b"\xef\xbb\xbf"
@@ -136,11 +138,17 @@ def unpack(source: Source, into: Path) -> None:
     Raises
     ------
     OSError
-        The file is not a gzip file, or is cut short; or it cannot be read, or the other cannot be written.
+        The file is not a gzip file, or is cut short, or too much is packed in it; or it cannot be read, or the other cannot be
+        written.
     """
+    unpacked = 0
     try:
         with source.fs.open(source.path, "rb") as packed, open(into, "wb") as file, gzip.GzipFile(fileobj=packed) as opened:
-            shutil.copyfileobj(opened, file, 1 << 20)
+            while piece := opened.read(1 << 20):
+                unpacked += len(piece)
+                if unpacked > MOST_UNPACKED:
+                    raise OSError(f"{source.path} holds more than {MOST_UNPACKED:,} bytes, which is the most that is unpacked")
+                file.write(piece)
     except (EOFError, gzip.BadGzipFile, zlib.error) as broken:
         raise OSError(f"{source.path} is no whole gzip file: {broken}") from None
     except OSError as failure:
