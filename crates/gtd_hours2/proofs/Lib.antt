@@ -1,0 +1,5 @@
+-- Lemmas of stored rules and of lists of parts.
+pub mod Apart
+pub mod Listing
+pub mod Storing
+pub mod Tables

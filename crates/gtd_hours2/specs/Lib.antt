@@ -1,0 +1,9 @@
+pub mod Days
+pub mod Opening
+pub mod Rules
+pub mod Stored
+pub mod Written
+pub use Rattle.gtd_core.specs.Limits
+pub use Rattle.gtd_core.specs.Seconds
+pub use Rattle.gtd_calendar.specs.Calendar
+pub use Rattle.gtd_calendar.specs.declared.day.DayFields

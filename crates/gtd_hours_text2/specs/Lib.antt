@@ -1,0 +1,4 @@
+pub mod Faults
+pub mod Dated
+pub mod Parts
+pub mod Reading

@@ -1,0 +1,5 @@
+pub mod Words
+pub mod Clock
+pub mod Signs
+pub mod Tokens
+pub mod Cursors
