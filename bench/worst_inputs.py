@@ -436,6 +436,14 @@ def tags_of_ways(folder):
     keys = [name + side for name in names for side in ("", ":forward", ":backward")]
     yield case("an element of 12,000 keys", many, (f"1,{key},no\n" for key in keys))
     yield case("an element of 12,000 conditional keys", many, (f"1,{key}:conditional,no @ (24/7)\n" for key in keys))
+    both = [(key + end, value) for key in keys for end, value in (("", "no"), (":conditional", "no @ (24/7)"))]
+    three = [f"{element},{key},{value}\n" for element in (1, 2, 3) for key, value in both[:MOST_ROWS // 3]]
+    yield case("65,535 keys of three elements by 4,000 modes", many, three)
+    alike = ["a" * 4_000 + name for name in names]
+    ignored = folder.file("alike_means", mean + "mode,access,0\n" + "".join(f"ignore,{name},\n" for name in alike))
+    rows = MOST_BYTES // (len(alike[0]) + 30)
+    tags = (f"{n},{alike[n * 7 % 4_000]}:conditional,no\n" for n in range(rows))
+    yield case("4,000 ignored names that begin alike", ignored, tags)
     value = (MOST_BYTES - 100) // len("no @ (hazmat);")
     yield case("a value of 16 MiB", few, ["1,access:conditional,", "no @ (hazmat);" * value, "\n"])
     kinds = [(name, f"condition,{name},{n + 1}\n") for n, name in enumerate(modes(99))]
@@ -443,6 +451,9 @@ def tags_of_ways(folder):
     each = "".join(f"no @ ({name});" for name, _ in kinds)
     value = each * ((MOST_BYTES - 100) // len(each))
     yield case("a value of 16 MiB that tells 99 types apart", apart, ["1,access:conditional,", value, "\n"])
+    times = [f"{n // 10:02}:{n % 6}0-{n // 10 + 1:02}:00" for n in range(99)]
+    parts = ";".join(f"no @ ({name} AND Mo {time})" for (name, _), time in zip(kinds, times))
+    yield case("4,800 elements of 99 parts", apart, (f"{n},access:conditional,{parts}\n" for n in range(4_800)))
     front = "".join(f"no @ ({name} AND Mo 10:00-11:00);" for name, _ in kinds[1:])
     last = f"no @ ({kinds[0][0]});"
     value = front + last * ((MOST_BYTES - 100 - len(front)) // len(last))
