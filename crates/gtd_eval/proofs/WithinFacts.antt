@@ -31,8 +31,8 @@ right-first s bounds l (x ∷ xs) left gives inside fits =
     (more.0, one.1 ∙ ap (λ (ys : List Interval). x ∷ ys) more.1)
 
 -- after first intervals that were handed on, whatever is done with the others is done with all
-pub carries-first : {E T : Type 0} (takes : E → T → Interval → E → T → Bool
-    → Type 0) (first rest : List Interval) (into0 into : E)
+pub carries-first : {E T : Type 0} (takes : E → T → Interval → E → T → Bool → Type 0)
+    (first rest : List Interval) (into0 into : E)
     (taker0 taker : T) → HandsOn takes first into0 taker0 [] into taker true
     → CarriesOn takes rest into taker (first ++ rest) into0 taker0
 carries-first takes [] rest into0 into taker0 taker on = λ left after then all h. rw (on.1, on.2) at h
@@ -60,7 +60,8 @@ stops-first takes (x ∷ xs) rest into0 into taker0 taker on =
 
 -- what a taker that is ready for a list does with first intervals of it
 pub some-first : {E T : Type 0} (takes : E → T → Interval → E → T → Bool → Type 0)
-    (list first rest : List Interval) (into0 into : E) (taker0 taker : T) (all : Bool) → list ≡ first ++ rest → HandsOn takes first into0 taker0 [] into taker all
+    (list first rest : List Interval) (into0 into : E) (taker0 taker : T) (all : Bool)
+    → list ≡ first ++ rest → HandsOn takes first into0 taker0 [] into taker all
     → TakesSome takes list into0 taker0 rest into taker all
 some-first takes list first rest into0 into taker0 taker true is on =
     rw is (carries-first takes first rest into0 into taker0 taker on)
