@@ -108,10 +108,10 @@ ready-one is_ready bounds mid left x into after taker then before is inside read
     (old.0, ready (first ++ old.0) old.1)
 
 -- a taker that is ready for what the sweep still has to give is ready for first intervals of the left side inside of the bounds
-pub left-ready : {E T : Type 0} (is_ready : E → T → List Interval
-    → Type 0) (s : Sweep) (bounds : Bounds) (before r : List Interval)
+pub left-ready : {E T : Type 0} (is_ready : E → T → List Interval → Type 0)
+    (s : Sweep) (bounds : Bounds) (before r : List Interval)
     (into : E) (taker : T) → ((x : Interval) → IsInside bounds x → GivesLeft s x) → Fits s before r
-        → is_ready into taker (still s before r)
+    → is_ready into taker (still s before r)
     → IsReadyWithin is_ready (AreInside bounds) before into taker
 left-ready is_ready s bounds before r into taker gives fits ready = λ first left split are.
     let one = left-first s bounds first left r gives are (rw split at fits) in
@@ -135,10 +135,10 @@ left-given is_ready takes s bounds before after r into0 into taker0 taker all gi
     )
 
 -- a taker that is ready for what the sweep still has to give is ready for first intervals of the right side inside of the bounds
-pub right-ready : {E T : Type 0} (is_ready : E → T → List Interval
-    → Type 0) (s : Sweep) (bounds : Bounds) (l before : List Interval)
+pub right-ready : {E T : Type 0} (is_ready : E → T → List Interval → Type 0)
+    (s : Sweep) (bounds : Bounds) (l before : List Interval)
     (into : E) (taker : T) → ((x : Interval) → IsInside bounds x → GivesRight s x) → Fits s l before
-        → is_ready into taker (still s l before)
+    → is_ready into taker (still s l before)
     → IsReadyWithin is_ready (AreInside bounds) before into taker
 right-ready is_ready s bounds l before into taker gives fits ready = λ first left split are.
     let one = right-first s bounds l first left gives are (rw split at fits) in

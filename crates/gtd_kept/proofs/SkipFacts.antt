@@ -9,6 +9,9 @@ end-both b [] ys e f = f
 end-both b (x ∷ xs) ys e f = (e.0, end-both b xs ys e.1 f)
 
 pub leaves-more : (b : ℤ) (xs ys zs : List Interval) → LeavesOut b xs ys → LeavesOut b ys zs → LeavesOut b xs zs
-leaves-more b xs ys zs (first, is, ends) (more, also, end) =
-    (first ++ more, is ∙ ap (λ (l : List Interval). first ++ l) also ∙
-        sym (append_assoc first more zs), end-both b first more ends end)
+leaves-more b xs ys zs (first, is, ends) (more, also, end) = (
+  first ++ more,
+  is ∙ ap (λ (l : List Interval). first ++ l) also ∙
+      sym (append_assoc first more zs),
+  end-both b first more ends end,
+)

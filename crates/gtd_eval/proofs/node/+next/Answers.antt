@@ -43,7 +43,7 @@ pub next_of_two-loop-sweep-preserved : goal.next_of_two-loop-sweep-preserved
 next_of_two-loop-sweep-preserved g t c =
     let old = c.loop-sweep.invariant in
     let kept = c.in-Right.ensures.steps.1 (node_list g.L.Leaf c.loop-sweep.left)
-        (node_list g.L.Leaf c.loop-sweep.right) old.fits in
+    (node_list g.L.Leaf c.loop-sweep.right) old.fits in
     let skip = c.skip_right.ensures in
     let told = c.tell-in-Right.ensures.right c.in-Right.ensures.steps.0 (node_list g.L.Leaf c.loop-sweep.left)
     (node_list g.L.Leaf c.skip_right.new.right) (node_list g.L.Leaf c.next-in-Right.new.self)
@@ -63,7 +63,7 @@ pub next_of_two-loop-sweep-preserved-in_default : goal.next_of_two-loop-sweep-pr
 next_of_two-loop-sweep-preserved-in_default g t c =
     let old = c.loop-sweep.invariant in
     let kept = c.in-Left.ensures.steps.1 (node_list g.L.Leaf c.loop-sweep.left)
-        (node_list g.L.Leaf c.loop-sweep.right) old.fits in
+    (node_list g.L.Leaf c.loop-sweep.right) old.fits in
     let skip = c.skip_left.ensures in
     let told = c.tell.ensures.left c.in-Left.ensures.steps.0 (node_list g.L.Leaf c.skip_left.new.left)
     (node_list g.L.Leaf c.next.new.self) (node_list g.L.Leaf c.loop-sweep.right) (rw c.in_default.is at c.next.ensures.takes)

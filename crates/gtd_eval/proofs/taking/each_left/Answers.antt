@@ -8,7 +8,7 @@ pub returns-then-not-gives_left-clause-fits : goal.returns-then-not-gives_left-c
 returns-then-not-gives_left-clause-fits g c =
     let awaits : AwaitsLeft c.loop-left.sweep = rw c.loop-left.invariant.sweep c.requires.awaits in
     let told = c.tell-then-not-gives_left.ensures.left awaits (node_list g.L.Leaf c.each_given_left.new.left)
-        (node_list g.L.Leaf c.next.new.self)
+    (node_list g.L.Leaf c.next.new.self)
     (node_list g.L.Leaf c.args._right.now) (rw c.in-Some.is at c.next.ensures.takes)
     c.each_given_left.ensures.fits in
     told.0
@@ -17,7 +17,7 @@ pub take-requires : goal.take-requires
 take-requires g c =
     let awaits : AwaitsLeft c.loop-left.sweep = rw c.loop-left.invariant.sweep c.requires.awaits in
     let given = c.if-not-gives_left.ensures.gives refl awaits (node_list g.L.Leaf c.each_given_left.new.left)
-        (node_list g.L.Leaf c.next.new.self)
+    (node_list g.L.Leaf c.next.new.self)
     (node_list g.L.Leaf c.args._right.now) (rw c.in-Some.is at c.next.ensures.takes)
     c.each_given_left.ensures.fits in
     record {

@@ -9,7 +9,7 @@ returns-then-not-gives_right-clause-fits g c =
     let awaits : AwaitsRight c.loop-right.sweep = rw c.loop-right.invariant.sweep c.requires.awaits in
     let told = c.tell-then-not-gives_right.ensures.right awaits (node_list g.L.Leaf c.args._left.now)
     (node_list g.L.Leaf c.each_given_right.new.right) (node_list g.L.Leaf c.next.new.self)
-        (rw c.in-Some.is at c.next.ensures.takes)
+    (rw c.in-Some.is at c.next.ensures.takes)
     c.each_given_right.ensures.fits in
     told.0
 
@@ -18,7 +18,7 @@ take-requires g c =
     let awaits : AwaitsRight c.loop-right.sweep = rw c.loop-right.invariant.sweep c.requires.awaits in
     let given = c.if-not-gives_right.ensures.gives refl awaits (node_list g.L.Leaf c.args._left.now)
     (node_list g.L.Leaf c.each_given_right.new.right) (node_list g.L.Leaf c.next.new.self)
-        (rw c.in-Some.is at c.next.ensures.takes)
+    (rw c.in-Some.is at c.next.ensures.takes)
     c.each_given_right.ensures.fits in
     record {
       ready = (_, rw given.1 at (c.loop-right-test.ensures.ready refl));
@@ -29,6 +29,6 @@ returns-in_default-clause-fits g c =
     let awaits : AwaitsRight c.loop-right.sweep = rw c.loop-right.invariant.sweep c.requires.awaits in
     let told = c.tell.ensures.right awaits (node_list g.L.Leaf c.args._left.now)
     (node_list g.L.Leaf c.each_given_right.new.right) (node_list g.L.Leaf c.next.new.self)
-        (rw c.in_default.is at c.next.ensures.takes)
+    (rw c.in_default.is at c.next.ensures.takes)
     c.each_given_right.ensures.fits in
     told.0
