@@ -401,6 +401,16 @@ def one_field(folder):
     yield Case("16 MiB of an element's digits", schedule(folder.field("element", "", "1"), DAY))
 
 
+def texts_twice(folder):
+    """Files in which each text comes twice, of basic domains that begin each minute, always or for an hour a day, and are never in
+    force together: whoever keeps their spans of a week looks for them long."""
+    for name, front in (("each minute", ""), ("each minute of an hour", "h7")):
+        texts = [joined([f"[({front}s{first}){{s1}}*({front}s{(first + 1 + (number // 60 + pair) % 59) % 60}){{s1}}]"
+                         for pair in range(9) for first in [(number + pair) % 60]]) for number in range(3_500)]
+        yield Case(f"7,000 elements, 3,500 texts of what begins {name}, a day",
+                   schedule(folder.elements(f"twice{front}", texts * 2), DAY))
+
+
 def vehicle_lists(folder):
     """Files of the greatest size whose lists of vehicle types are long."""
     mixed = ";".join(str(1 + 37 * n % 99) for n in range(99)) + ";"
@@ -519,6 +529,6 @@ def cases(path):
     folder = Folder(path)
     yield from domains()
     yield from words()
-    for group in (one_row, one_element, cursors, many_elements, states, pictures, rows_in_order, one_field, vehicle_lists,
-                  tags_of_ways, hours_rows, hours_texts):
+    for group in (one_row, one_element, cursors, many_elements, states, pictures, rows_in_order, one_field, texts_twice,
+                  vehicle_lists, tags_of_ways, hours_rows, hours_texts):
         yield from group(folder)
