@@ -26,3 +26,4 @@ pub mod LineParts
 pub mod AlikeFacts
 pub mod AnyOrder
 pub mod WeekFacts
+pub mod AlwaysFacts

@@ -54,7 +54,7 @@ impl ClosingCursors {
     ghost use Rattle.gtd_core.specs.Whole.{whole};
     ghost use Rattle.gtd_eval.specs.Cursors.{cursor_list, IsAtStart};
     ghost use Rattle.gtd_records.specs.Closing.{HoldsAt};
-    ghost use Rattle.gtd_records.specs.ClosingCursors.{AreAtStart, HasSecond, RepeatIn, nodes_with_cursors};
+    ghost use Rattle.gtd_records.specs.ClosingCursors.{AddsRepeating, AreAtStart, HasSecond, RepeatIn, nodes_with_cursors};
     ghost use Rattle.gtd_spans.specs.Normal.{Holds, IsNormal};
 
     // No cursors.
@@ -83,6 +83,7 @@ impl ClosingCursors {
             ↔ (HasSecond self.old t ⊎ (Within (whole horizon) t × HoldsAt record.now.domain t))) }
         ensures repeats { OnOk result (RepeatIn horizon self.old.period self.old.repeating.items
             → RepeatIn horizon self.new.period self.new.repeating.items) }
+        ensures again { OnOk result (AddsRepeating (HoldsAt record.now.domain) self.old self.new) }
         ensures start { OnOk result (AreAtStart self.old → AreAtStart self.new) }
     {
         let Some(period) = record.period() else {

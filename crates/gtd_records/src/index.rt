@@ -1,6 +1,6 @@
 //! The records of a file in memory, found by their element.
 
-ghost use Rattle.std.specs.Prelude.{Any, ◌≡◌, ◌↔◌, ◌≤◌, ◌<◌, length, slice_index_or, IfOk, IfSome, IsFalse, IsTrue};
+ghost use Rattle.std.specs.Prelude.{Any, ◌≡◌, ◌↔◌, ◌≤◌, ◌<◌, length, slice_index_or, ℤ, IfOk, IfSome, IsFalse, IsTrue};
 ghost use Rattle.gtd_core.specs.Limits.{most_nodes, most_rows};
 ghost use Rattle.gtd_core.specs.Seconds.{IsHorizonSecond, Within};
 ghost use Rattle.gtd_core.specs.Whole.{whole};
@@ -8,7 +8,8 @@ ghost use Rattle.gtd_eval.specs.Periods.{RepeatsFrom};
 ghost use Rattle.gtd_eval.specs.Stays.{IsStay};
 ghost use Rattle.gtd_records.specs.ClosedWhen.{IsClosedWhen};
 ghost use Rattle.gtd_records.specs.Closing.{AreElements, Closes, ClosesOneWay, Concerns, IsClosed, Restriction};
-ghost use Rattle.gtd_records.specs.ClosingCursors.{AreAtStart, HasSecond, RepeatIn, nodes_with_cursors};
+ghost use Rattle.gtd_eval.specs.Cursors.{SomeHolds};
+ghost use Rattle.gtd_records.specs.ClosingCursors.{AreAtStart, HasSecond, IsClosedRepeating, RepeatIn, nodes_with_cursors};
 ghost use Rattle.gtd_records.specs.ClosingRows.{AreClosingRows};
 ghost use Rattle.gtd_records.specs.Index.{AreClosing, AreElementPlaces, ArePlaces, ArePlacesWithin, IsRepeated};
 ghost use Rattle.gtd_records.specs.Columns.{IsSortedSet};
@@ -323,6 +324,8 @@ impl Records {
         ensures nodes { IfOk result (λ c. nodes_with_cursors c ≤ most_nodes) }
         ensures seconds { IfOk result (λ c. AreClosing self.now element direction vehicle horizon (HasSecond c)) }
         ensures repeats { IfOk result (λ c. RepeatIn horizon c.period c.repeating.items) }
+        ensures again { IfOk result (λ c. (t : ℤ) → SomeHolds c.repeating.items t
+            → IsClosedRepeating c.period self.now element direction vehicle t) }
         ensures start { IfOk result AreAtStart }
     {
         let places = self.places_of_element(element);

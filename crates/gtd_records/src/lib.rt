@@ -21,6 +21,7 @@ pub use schedule::{open_seconds, schedule_of};
 pub use vehicles::{Codes, Vehicles, Version, read_vehicles};
 
 mod alike;
+mod always;
 mod change;
 mod closed_when;
 mod closing_cursors;

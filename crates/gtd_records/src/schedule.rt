@@ -5,18 +5,40 @@ ghost use Rattle.gtd_eval.specs.Cursors.{cursor_list, IsAtStart};
 ghost use Rattle.gtd_eval.specs.Membership.{IsNormalOver};
 ghost use Rattle.gtd_records.specs.Closing.{IsOpen};
 
+use crate::always::is_always_closed;
 use crate::closed_when::ClosedWhen;
-use crate::direction::Direction;
+use crate::direction::{DirectedElement, Direction};
 use crate::index::Records;
 use gtd_core::Horizon;
 use gtd_eval::KeptCursor;
 use gtd_spans::SpanList;
 use std::alloc::{AllocError, Global};
 
+// The open seconds of an element that records with domains close: none where those that repeat close it at every second.
+fn open_by_domains(
+    alloc: Global,
+    records: &Records,
+    at: DirectedElement,
+    vehicle: u8,
+    horizon: Horizon,
+) -> Result<KeptCursor, AllocError>
+    ensures seconds { IfOk result
+        (λ c. IsNormalOver (IsOpen records.now at.element at.direction vehicle) horizon (cursor_list c)) }
+    ensures start { IfOk result IsAtStart }
+{
+    let always = is_always_closed(alloc, records, at, vehicle, horizon)?;
+    if always {
+        return KeptCursor::any(alloc, Vec::new(alloc), horizon);
+    }
+    let closing = records.closing(alloc, at.element, at.direction, vehicle, horizon)?;
+    closing.outside(alloc, horizon)
+}
+
 /// The seconds of the horizon in which no record closes the element in the direction for the vehicle type, span by
 /// span. The vehicle type must be from 1 to 99. An element that no record names is open throughout. The spans of a period are
 /// kept, at most 4,096, and handed out again: those that all records that repeat leave open, and of what repeats in the others.
-/// Where no record closes it, or one without a domain does, no cursor of a record is opened, and no memory is taken.
+/// Where no record closes it, or one without a domain does, no cursor of a record is opened, and no memory is taken. Where those
+/// that repeat close it at every second, a period of them is looked at, and no more.
 /// `AllocError` is answered only if memory was refused.
 pub fn open_seconds(
     alloc: Global,
@@ -34,8 +56,8 @@ pub fn open_seconds(
         ClosedWhen::Never => Ok(KeptCursor::whole(horizon)),
         ClosedWhen::Always => KeptCursor::any(alloc, Vec::new(alloc), horizon),
         ClosedWhen::ByDomains => {
-            let closing = records.closing(alloc, element, direction, vehicle, horizon)?;
-            closing.outside(alloc, horizon)
+            let at = DirectedElement { element, direction };
+            open_by_domains(alloc, records, at, vehicle, horizon)
         }
     }
 }

@@ -1,9 +1,7 @@
--- All is open where no record closes the element, nothing where one without a domain does; else what lies outside of all closing
--- cursors.
+-- All is open where no record closes the element, nothing where one without a domain does.
 use Rattle.gtd_eval.specs.Cursors.{cursor_list}
 use Rattle.gtd_records.proofs.ClosedWhenFacts.{always_closed, never_closed, none_hold}
-use Rattle.gtd_records.proofs.OpenFacts.{ok_both, open_normal}
-use Rattle.gtd_records.specs.ClosingCursors.{HasSecond}
+use Rattle.gtd_records.proofs.OpenFacts.{ok_both}
 use Rattle.gtd_records.proofs.schedule.open_seconds.Goals as goal
 
 pub returns-in-Never : goal.returns-in-Never
@@ -20,13 +18,4 @@ returns-in-Always c = record {
       (cursor_list r) c.in-Always.ensures.when (λ t h. none_hold c.new.result.items t c.new.ensures.items ((seconds t).0 h))
       normal);
   start = c.any.ensures.start (rw c.new.ensures.items tt);
-}
-
-pub returns-in_ok-closing-in-ByDomains : goal.returns-in_ok-closing-in-ByDomains
-returns-in_ok-closing-in-ByDomains c = record {
-  seconds = ok_both c.outside.result c.outside.ensures.seconds c.outside.ensures.normal
-      (λ r seconds normal. open_normal c.args.records.now c.args.element c.args.direction c.args.vehicle c.args.horizon
-      (HasSecond c.in_ok-closing-in-ByDomains.closing) (cursor_list r) c.in_ok-closing-in-ByDomains.ensures.seconds seconds
-      normal);
-  start = c.outside.ensures.start c.in_ok-closing-in-ByDomains.ensures.start;
 }

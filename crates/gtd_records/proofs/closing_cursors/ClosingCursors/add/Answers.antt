@@ -1,6 +1,8 @@
 -- The cursor of a record that repeats comes to those that do, and the longer period is one of them all.
-use Rattle.std.proofs.Common.{arith, length-append, [], ◌∷◌}
+use Rattle.std.proofs.Common.{arith, length-append, [], ◌∷◌, inl, inr}
+use Rattle.std.proofs.lemmas.Int.{ints}
 use Rattle.gtd_eval.specs.facts.CursorFacts.{nodes-append, start-append}
+use Rattle.gtd_eval.specs.facts.PeriodFacts.{from-longer}
 use Rattle.gtd_records.specs.Closing.{HoldsAt}
 use Rattle.gtd_records.proofs.OpenFacts.{left-more, pushed, right-more}
 use Rattle.gtd_records.proofs.PeriodFacts.{more-repeat}
@@ -53,3 +55,21 @@ returns-clause-start c = λ all. (
       (c.in_ok-cursor-2.ensures.start, tt)),
   all.1,
 )
+
+pub returns-in_default-clause-again : goal.returns-in_default-clause-again
+returns-in_default-clause-again c = record { longer = omega (arith, ints); added = λ t h. inl h }
+
+pub returns-clause-again : goal.returns-clause-again
+returns-clause-again c =
+    let set = HoldsAt c.args.record.now.domain in
+    record {
+      longer = c.longer-self.ensures.first;
+      added = rw c.in_ok-push-2.ensures.items (λ t h.
+          elim ((pushed c.args.self.now.repeating.items c.in_ok-cursor-2.cursor t).0 h) [
+            | inl before ↦ inl before
+            | inr new ↦ inr (
+              ((c.in_ok-cursor-2.ensures.seconds t).0 new).1,
+              from-longer c.in-Some.period c.longer-self.result set c.longer-self.ensures.second c.in-Some.ensures.repeats,
+            )
+          ]);
+    }

@@ -1,7 +1,8 @@
 -- A cursor for each record of the element that closes the direction for the vehicle type; one left out has an equal.
-use Rattle.std.proofs.Common.{sym, arith, rules}
+use Rattle.std.proofs.Common.{sym, arith, rules, inl}
 use Rattle.gtd_records.specs.ClosingCursors.{HasSecond}
 use Rattle.gtd_records.proofs.FoundPlaces.{nowhere, places_kept, repeats_kept}
+use Rattle.gtd_records.proofs.AlwaysFacts.{added-again}
 use Rattle.gtd_records.proofs.OpenFacts.{are_closing, none_closing, one_cursor, same_cursors}
 use Rattle.gtd_records.proofs.index.Records.closing.Goals as goal
 use Rattle.gtd_records.proofs.index.Records.closing.Goals.{then-adds+in_ok-add, else-adds}
@@ -19,6 +20,7 @@ loop-at-init c = record {
   few = omega (arith, c.none-cursors.ensures.nodes);
   so_far = none_closing _ _ _ _ _ _ _ c.none-cursors.ensures.seconds;
   repeats = c.none-cursors.ensures.repeats c.args.horizon;
+  again = λ t h. absurd (c.none-cursors.ensures.seconds t (inl h));
   start = c.none-cursors.ensures.start;
 }
 
@@ -31,6 +33,7 @@ returns c =
       seconds = rw (sym c.self.view_is) (are_closing _ _ _ _ _ _ _ _ c.loop-at.invariant.so_far
           (λ row r within stands names. let at = part.all row r within stands names in (at.0, omega (arith, at.1), at.2)));
       repeats = c.loop-at.invariant.repeats;
+      again = rw (sym c.self.view_is) c.loop-at.invariant.again;
       start = c.loop-at.invariant.start;
     }
 
@@ -48,6 +51,8 @@ loop-at-preserved c =
                 c.loop-at-test.true p.0 c.index-restriction.ensures
                 name (w.if-adds.ensures.concerns (search rules)) w.in_ok-add.ensures.seconds old.so_far;
             repeats = w.in_ok-add.ensures.repeats old.repeats;
+            again = added-again _ _ _ _ c.loop-at.cursors w.add.new.self _ c.index-restriction.result.now p.0
+                c.index-restriction.ensures name (w.if-adds.ensures.concerns (search rules)) w.in_ok-add.ensures.again old.again;
             start = w.in_ok-add.ensures.start old.start;
           })
       | else-adds w ↦
@@ -58,6 +63,7 @@ loop-at-preserved c =
                 c.index-restriction.ensures
                 (λ k. repeats_kept _ _ _ _ _ _ _ c.self.view_is (w.if-adds.ensures.repeated (search rules) k)) old.so_far;
             repeats = old.repeats;
+            again = old.again;
             start = old.start;
           })
     ]

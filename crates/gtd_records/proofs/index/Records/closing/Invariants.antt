@@ -1,6 +1,8 @@
 use Rattle.std.proofs.Common.{◌≤◌, ◌*◌}
 use Rattle.gtd_records.proofs.OpenFacts.{AreClosingSoFar}
-use Rattle.gtd_records.specs.ClosingCursors.{AreAtStart, HasSecond, RepeatIn, nodes_with_cursors}
+use Rattle.std.specs.Prelude.{ℤ}
+use Rattle.gtd_eval.specs.Cursors.{SomeHolds}
+use Rattle.gtd_records.specs.ClosingCursors.{AreAtStart, HasSecond, IsClosedRepeating, RepeatIn, nodes_with_cursors}
 use Rattle.gtd_records.proofs.index.Records.closing.Given as goal
 
 -- the cursors of the records so far
@@ -10,5 +12,7 @@ invariant-loop-at l = record {
   so_far : AreClosingSoFar l.self-inside.rows.items l.places l.element l.direction l.vehicle l.horizon l.at
       (HasSecond l.cursors);
   repeats : RepeatIn l.horizon l.cursors.period l.cursors.repeating.items;
+  again : (t : ℤ) → SomeHolds l.cursors.repeating.items t
+      → IsClosedRepeating l.cursors.period l.self-inside.rows.items l.element l.direction l.vehicle t;
   start : AreAtStart l.cursors;
 }
