@@ -9,7 +9,7 @@ use Rattle.gtd_report.specs.Putting.{Puts, failures_after_stop}
 use Rattle.gtd_report.specs.declared.output.Progress.{Progress}
 use Rattle.gtd_report.specs.declared.output.Stop.TheVariants.{Output}
 use Rattle.gtd_report.specs.facts.PutFacts.{puts_cut, puts_none, puts_then}
-use Rattle.gtd_schedule.specs.Handed.{PutsSpan, line_of, put_result}
+use Rattle.gtd_schedule.specs.Handed.{PutsSpan, line_of, progress_of, put_result}
 use Rattle.gtd_schedule.specs.Lines.{span_line}
 use Rattle.gtd_schedule.specs.declared.elements.SpanLine.{SpanLine}
 use Rattle.gtd_schedule.specs.facts.LineFacts.{length-lines}
@@ -22,18 +22,18 @@ same_lines one other spans at vehicle = rw (at, vehicle) refl
 module _ {E : Type 0} (taken : E → Option (List ℕ)) (failures : E → ℕ) where
   pub handed_puts : (spans : List Interval) (o : E) (l : SpanLine) (left : List Interval) (p : E) (m : SpanLine) (all : Bool)
       → HandsOn (λ o l x p m whole. PutsSpan (taken o) (failures o) l x (taken p) (failures p) m whole) spans o l left p m all
-      → Puts (put_result all) (taken o) (taken p) l.progress m.progress (map (line_of l) spans)
+      → Puts (put_result all) (taken o) (taken p) (progress_of l) (progress_of m) (map (line_of l) spans)
       × (failures p ≡ failures_after_stop (put_result all) (failures o))
-  handed_puts [] o l left p m all h = rw (h.1, h.2, h.3) (puts_none (taken o) l.progress, refl)
+  handed_puts [] o l left p m all h = rw (h.1, h.2, h.3) (puts_none (taken o) (progress_of l), refl)
   handed_puts (x ∷ xs) o l left p m all (inl h) =
       rw h.2 (
-        puts_cut Output (taken o) (taken p) l.progress m.progress (line_of l x ∷ []) (map (line_of l) xs) h.0.put,
+        puts_cut Output (taken o) (taken p) (progress_of l) (progress_of m) (line_of l x ∷ []) (map (line_of l) xs) h.0.put,
         h.0.failures,
       )
   handed_puts (x ∷ xs) o l left p m all (inr (next, more, first, h)) =
       let then = handed_puts xs next more left p m all h in
       let same = same_lines l more xs first.at first.vehicle in (
-        puts_then (put_result all) (taken o) (taken next) (taken p) l.progress more.progress m.progress (line_of l x ∷ [])
+        puts_then (put_result all) (taken o) (taken next) (taken p) (progress_of l) (progress_of more) (progress_of m) (line_of l x ∷ [])
             (map (line_of l) xs) first.put (rw same at then.0),
         then.1 ∙ ap (failures_after_stop (put_result all)) first.failures,
       )

@@ -1,11 +1,8 @@
 -- The two moments of a line, each by itself.
 use Rattle.std.proofs.Common.{◌≡◌, ◌∙◌, ap, ℕ, ℤ, List, [], ◌∷◌, ◌++◌, take, drop}
-use Rattle.gtd_calendar.specs.Stamp.{clock_text, stamp_text}
-use Rattle.gtd_core.specs.Seconds.{day_of_second}
-use Rattle.gtd_schedule.specs.Months.{IsDated}
-use Rattle.gtd_schedule.specs.Moments.{AreMoments, IsKeptOf, IsShown}
+use Rattle.gtd_calendar.specs.Stamp.{stamp_text}
+use Rattle.gtd_schedule.specs.Moments.{AreMoments, IsShown}
 use Rattle.gtd_schedule.specs.declared.line.ShownSpan.{ShownSpan}
-use Rattle.gtd_schedule.specs.declared.moment.Shown.{Shown}
 
 module _ (shown : ShownSpan) (bytes : List ℕ) (are : AreMoments shown bytes) (part : List ℕ) where
   pub from_shown : part ≡ take 20 bytes → IsShown shown.from part
@@ -21,14 +18,3 @@ module _ (shown : ShownSpan) (bytes : List ℕ) (are : AreMoments shown bytes) (
   pub until_is : (second : ℤ) (new : List ℕ) → part ≡ drop 20 bytes → new ≡ stamp_text second ++ drop 19 part
       → new ≡ stamp_text second ++ (10 ∷ [])
   until_is second new is written = written ∙ ap (λ (l : List ℕ). stamp_text second ++ drop 19 l) (is ∙ ap (drop 20) are.is)
-
--- a text that begins with the moment of a second shows its day
-pub dated : (second : ℤ) (shown : Shown) (text rest : List ℕ) → IsKeptOf second shown → text ≡ stamp_text second ++ rest
-    → IsDated shown.month text
-dated second shown text rest kept is = record {
-  day = day_of_second second;
-  rest = clock_text second ++ rest;
-  in_calendar = kept.day;
-  of = kept.month;
-  is = is;
-}

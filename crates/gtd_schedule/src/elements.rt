@@ -9,7 +9,8 @@ ghost use Rattle.gtd_schedule.specs.OpenCursors.{AreOpenSeconds};
 ghost use Rattle.gtd_schedule.specs.Schedule.{AreLines};
 
 use crate::line::{FirstMoments, ShownSpan, write_first_moments, write_head, write_span};
-use crate::put::put_whole;
+use crate::months::Months;
+use crate::put::put_bytes;
 use crate::run::Schedule;
 use gtd_core::Span;
 use gtd_devices::Output;
@@ -23,6 +24,7 @@ use std::mem::replace;
 pub(crate) struct ScheduleLines {
     pub(crate) schedule: Schedule,
     pub(crate) first: FirstMoments,
+    pub(crate) months: Months,
 }
 
 /// The records of a file, and the lines of their schedule.
@@ -34,17 +36,21 @@ pub(crate) struct ScheduleText<'a> {
 
 /// The line of a span of an element in a direction, over which that of the next one is written, and what was put so far.
 #[derive(Drop)]
-pub(crate) struct SpanLine {
+pub(crate) struct SpanLine<'a> {
+    pub(crate) months: &'a Months,
     pub(crate) at: DirectedElement,
     pub(crate) vehicle: u8,
+    /// How many lines were put whole.
+    pub(crate) lines: u64,
     pub(crate) line: Vec<u8>,
     /// How many bytes of the line come before its moments.
     pub(crate) head: usize,
     pub(crate) shown: ShownSpan,
-    pub(crate) progress: Progress,
+    /// How many bytes were taken.
+    pub(crate) written: u64,
 }
 
-impl<O: Output> SpanTaker<O> for SpanLine {
+impl<O: Output> SpanTaker<O> for SpanLine<'_> {
     ghost use Rattle.gtd_schedule.specs.Handed.{IsReady, PutsSpan};
 
     ghost is_ready = { λ output line spans. IsReady (O.failure_count output) line spans };
@@ -54,10 +60,24 @@ impl<O: Output> SpanTaker<O> for SpanLine {
 
     #[inline(always)]
     fn take(&mut self, output: &mut O, span: Span) -> bool {
-        write_span(&mut self.line, self.head, &mut self.shown, span);
-        match put_whole(output, &mut self.progress, self.line.as_slice()) {
-            Ok(()) => true,
-            Err(_) => false,
+        write_span(
+            &mut self.line,
+            self.head,
+            &mut self.shown,
+            self.months,
+            span,
+        );
+        let line = self.line.as_slice();
+        match put_bytes(output, line) {
+            Ok(()) => {
+                self.written += line.len() as u64;
+                self.lines += 1;
+                true
+            }
+            Err(short) => {
+                self.written += short.taken as u64;
+                false
+            }
         }
     }
 }
@@ -89,17 +109,24 @@ fn put_spans<O: Output>(
     let shown = write_first_moments(&mut printer.line, &lines.first)?;
     let alloc = printer.alloc;
     let mut line = SpanLine {
+        months: &lines.months,
         at,
         vehicle,
+        lines: printer.progress.lines,
         line: replace(&mut printer.line, Vec::new(alloc)),
         head,
         shown,
-        progress: printer.progress,
+        written: printer.progress.written,
     };
     let whole = spans.each(output, &mut line);
-    let SpanLine { line, progress, .. } = line;
+    let SpanLine {
+        lines,
+        line,
+        written,
+        ..
+    } = line;
     printer.line = line;
-    printer.progress = progress;
+    printer.progress = Progress { lines, written };
     if whole { Ok(()) } else { Err(Stop::Output) }
 }
 

@@ -9,6 +9,7 @@ mod hash_places;
 pub mod laws;
 mod line;
 mod moment;
+mod months;
 mod put;
 mod run;
 mod text;

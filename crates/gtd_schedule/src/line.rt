@@ -10,6 +10,7 @@ ghost use Rattle.gtd_schedule.specs.Lines.{line_head, span_text};
 ghost use Rattle.gtd_schedule.specs.Moments.{AreMoments, first_second};
 
 use crate::moment::{Month, Shown, write_moment};
+use crate::months::Months;
 use gtd_core::{Sec, Span};
 use gtd_records::Direction;
 use itoa::Buffer;
@@ -59,7 +60,7 @@ pub(crate) struct FirstMoments {
 
 impl FirstMoments {
     // Those of a second.
-    pub(crate) fn of(second: Sec) -> FirstMoments
+    pub(crate) fn of(second: Sec, months: &Months) -> FirstMoments
         requires day { IsCalendarDay (day_of_second second.0) }
     {
         let mut bytes = *b"1970-01-01T00:00:00,1970-01-01T00:00:00\n";
@@ -74,8 +75,8 @@ impl FirstMoments {
         };
         let mut same = shown;
         let (from, until) = bytes.split_at_mut(20);
-        write_moment(from, &mut shown, until, month, second);
-        write_moment(until, &mut same, from, shown.month, second);
+        write_moment(from, &mut shown, months, second);
+        write_moment(until, &mut same, months, second);
         FirstMoments {
             bytes,
             shown,
@@ -101,7 +102,13 @@ pub(crate) fn write_first_moments(
 
 // Writes a span over the two moments after the head of its line, which has so many bytes.
 #[inline(always)]
-pub(crate) fn write_span(line: &mut Vec<u8>, head: usize, shown: &mut ShownSpan, span: Span)
+pub(crate) fn write_span(
+    line: &mut Vec<u8>,
+    head: usize,
+    shown: &mut ShownSpan,
+    months: &Months,
+    span: Span,
+)
     requires head { head ≤ length line.old.items }
     requires shown { AreMoments shown.old (drop head line.old.items) }
     requires from { IsCalendarDay (day_of_second span.from) }
@@ -111,8 +118,6 @@ pub(crate) fn write_span(line: &mut Vec<u8>, head: usize, shown: &mut ShownSpan,
 {
     let (_, moments) = line.as_mut_slice().split_at_mut(head);
     let (from, until) = moments.split_at_mut(20);
-    let month = shown.until.month;
-    write_moment(from, &mut shown.from, until, month, span.from());
-    let month = shown.from.month;
-    write_moment(until, &mut shown.until, from, month, span.until());
+    write_moment(from, &mut shown.from, months, span.from());
+    write_moment(until, &mut shown.until, months, span.until());
 }

@@ -11,6 +11,7 @@ ghost use Rattle.gtd_schedule.specs.Lines.{clock_bytes};
 ghost use Rattle.gtd_schedule.specs.Months.{IsDated};
 ghost use Rattle.gtd_schedule.specs.Moments.{IsDayOfMonth, IsKeptOf, IsMonthOf, IsShown, IsSomeMonth};
 
+use crate::months::Months;
 use gtd_calendar::{second_of_day, write_date};
 use gtd_core::Sec;
 use gtd_core::limits::DAY_SECONDS;
@@ -85,7 +86,7 @@ fn last_day_of(month: u8) -> u32
 // Writes a day over the one that the text begins with, and answers its month.
 #[cold]
 #[inline(never)]
-fn write_whole_day(text: &mut [u8], day: i64) -> Month
+pub(crate) fn write_whole_day(text: &mut [u8], day: i64) -> Month
     requires day { IsCalendarDay day }
     requires inside { 10 ≤ length text.old }
     ensures text { text.new ≡ date_text day ++ drop 10 text.old }
@@ -123,49 +124,37 @@ fn place_in_month(month: Month, second: Sec) -> Option<Place>
     })
 }
 
-// Writes the day of a second over the one that the text begins with, where the known month does not have it: another text
-// may show a day of its month. Answers the second of the day.
+// Writes the day of a second over the one that the text begins with, where the known month does not have it: mostly a date of
+// its month was computed before the run. Answers the second of the day.
 #[cold]
 #[inline(never)]
-fn write_other_month(
-    text: &mut [u8],
-    month: &mut Month,
-    other: &[u8],
-    month_of_other: Month,
-    second: Sec,
-) -> u32
+fn write_other_month(text: &mut [u8], month: &mut Month, months: &Months, second: Sec) -> u32
     requires day { IsCalendarDay (day_of_second second.0) }
     requires inside { 10 ≤ length text.old }
-    requires other { IsDated month_of_other other.now }
     ensures text { text.new ≡ date_text (day_of_second second.0) ++ drop 10 text.old }
     ensures month { IsMonthOf (day_of_second second.0) month.new }
     ensures clock { result ≡ clock_of second.0 }
 {
-    if let Some(at) = place_in_month(month_of_other, second) {
-        let (front, _) = text.split_at_mut(8);
-        let (same, _) = other.split_at(8);
-        front.copy_from_slice(same);
-        write_two(text, 8, at.day);
-        *month = month_of_other;
-        return at.clock;
+    if let Some(known) = months.near(second) {
+        if let Some(at) = place_in_month(known.month, second) {
+            let (front, _) = text.split_at_mut(8);
+            let (same, _) = known.date.split_at(8);
+            front.copy_from_slice(same);
+            write_two(text, 8, at.day);
+            *month = known.month;
+            return at.clock;
+        }
     }
     *month = write_whole_day(text, second.day());
     second_of_day(second)
 }
 
 // Writes the day of a second over the one of a known month that the text begins with: mostly the new day is in that month
-// too. Another text shows a day, too, whose month is known. Answers the second of the day.
+// too. Answers the second of the day.
 #[inline(always)]
-fn write_day(
-    text: &mut [u8],
-    month: &mut Month,
-    other: &[u8],
-    month_of_other: Month,
-    second: Sec,
-) -> u32
+fn write_day(text: &mut [u8], month: &mut Month, months: &Months, second: Sec) -> u32
     requires day { IsCalendarDay (day_of_second second.0) }
     requires month { IsDated month.old text.old }
-    requires other { IsDated month_of_other other.now }
     ensures text { text.new ≡ date_text (day_of_second second.0) ++ drop 10 text.old }
     ensures month { IsMonthOf (day_of_second second.0) month.new }
     ensures clock { result ≡ clock_of second.0 }
@@ -174,7 +163,7 @@ fn write_day(
         write_two(text, 8, at.day);
         return at.clock;
     }
-    write_other_month(text, month, other, month_of_other, second)
+    write_other_month(text, month, months, second)
 }
 
 // Writes a clock over the one after the day, if it is another one.
@@ -205,21 +194,14 @@ fn write_clock(text: &mut [u8], shown: &mut Shown, clock: u32)
     }
 }
 
-/// Writes the text of a moment over the one that a text begins with. Another text shows a moment, too.
+/// Writes the text of a moment over the one that a text begins with.
 #[inline(always)]
-pub(crate) fn write_moment(
-    text: &mut [u8],
-    shown: &mut Shown,
-    other: &[u8],
-    month_of_other: Month,
-    second: Sec,
-)
+pub(crate) fn write_moment(text: &mut [u8], shown: &mut Shown, months: &Months, second: Sec)
     requires day { IsCalendarDay (day_of_second second.0) }
     requires shown { IsShown shown.old text.old }
-    requires other { IsDated month_of_other other.now }
     ensures text { text.new ≡ stamp_text second.0 ++ drop 19 text.old }
     ensures kept { IsKeptOf second.0 shown.new }
 {
-    let clock = write_day(text, &mut shown.month, other, month_of_other, second);
+    let clock = write_day(text, &mut shown.month, months, second);
     write_clock(text, shown, clock);
 }

@@ -1,8 +1,8 @@
 //! Lines put to an output that mostly takes a line whole.
 
-ghost use Rattle.std.specs.Prelude.{◌≡◌, ◌+◌, ◌-◌, ◌<◌, ◌≤◌, ◌^◌, length, take, drop, OnOk, IfErr};
+ghost use Rattle.std.specs.Prelude.{◌≡◌, ◌-◌, ◌<◌, ◌≤◌, length, take, drop, OnOk, IfErr};
 ghost use Rattle.std.specs.Io.KnownBytes.{Appends};
-ghost use Rattle.gtd_report.specs.Putting.{after_line, failures_after_line};
+ghost use Rattle.gtd_report.specs.Putting.{failures_after_line};
 
 use gtd_devices::{Output, Put};
 use gtd_report::{Progress, ShortPut, put_line};
@@ -29,9 +29,9 @@ fn put_rest<O: Output>(output: &mut O, line: &[u8], taken: usize) -> Result<(), 
     }
 }
 
-// Offers the bytes of a line, and then the rest of them until all are taken.
+/// Offers the bytes of a line, and then the rest of them until all are taken.
 #[inline(always)]
-fn put_bytes<O: Output>(output: &mut O, line: &[u8]) -> Result<(), ShortPut>
+pub(crate) fn put_bytes<O: Output>(output: &mut O, line: &[u8]) -> Result<(), ShortPut>
     requires countable { O.failure_count output.old < u64.MAX }
     requires offered { 0 < length line.now }
     ensures all { OnOk result (Appends (O.taken output.old) (O.taken output.new) line.now) }
@@ -48,36 +48,5 @@ fn put_bytes<O: Output>(output: &mut O, line: &[u8]) -> Result<(), ShortPut>
             put_rest(output, line, taken)
         }
         Put::Failed => Err(ShortPut { taken: 0 }),
-    }
-}
-
-/// Puts a line that is not empty, as [`put_line`] does.
-#[inline(always)]
-pub(crate) fn put_whole<O: Output>(
-    output: &mut O,
-    progress: &mut Progress,
-    line: &[u8],
-) -> Result<(), ShortPut>
-    requires countable { O.failure_count output.old < u64.MAX }
-    requires offered { 0 < length line.now }
-    requires written { progress.old.written + length line.now < 2 ^ 64 }
-    requires lines { progress.old.lines + 1 < 2 ^ 64 }
-    ensures all { OnOk result (Appends (O.taken output.old) (O.taken output.new) line.now) }
-    ensures some { IfErr result (λ short. (short.taken < length line.now)
-        × Appends (O.taken output.old) (O.taken output.new) (take short.taken line.now)) }
-    ensures progress { progress.new ≡ after_line result progress.old line.now }
-    ensures failures { O.failure_count output.new
-        ≡ failures_after_line result (O.failure_count output.old) }
-{
-    match put_bytes(output, line) {
-        Ok(()) => {
-            progress.written += line.len() as u64;
-            progress.lines += 1;
-            Ok(())
-        }
-        Err(short) => {
-            progress.written += short.taken as u64;
-            Err(short)
-        }
     }
 }

@@ -10,6 +10,7 @@ ghost use Rattle.gtd_schedule.specs.Theorem.{Headline};
 use crate::cursors::OpenCursors;
 use crate::elements::{ScheduleLines, ScheduleText};
 use crate::line::FirstMoments;
+use crate::months::Months;
 use crate::text::put_elements;
 use gtd_core::Horizon;
 use gtd_devices::{Input, Output};
@@ -48,10 +49,12 @@ impl Report for Schedule {
         let header = b"element,direction,vehicle,from,until\n";
         let elements = found.elements();
         let mut cursors = OpenCursors::new(printer.alloc, elements.len())?;
-        let first = FirstMoments::of(self.horizon.from());
+        let months = Months::of(printer.alloc, self.horizon)?;
+        let first = FirstMoments::of(self.horizon.from(), &months);
         let lines = ScheduleLines {
             schedule: *self,
             first,
+            months,
         };
         let text = ScheduleText {
             found,

@@ -1,7 +1,7 @@
 use Rattle.std.proofs.Common.{◌≡◌, ◌∙◌, sym, ap, refl, arith, ℕ, List, ◌++◌, length, length-append, take, drop}
 use Rattle.std.proofs.lemmas.List.{take_at, take-append-drop}
 use Rattle.gtd_schedule.specs.Lines.{span_text}
-use Rattle.gtd_schedule.proofs.MomentParts.{dated, from_is, from_shown, until_is, until_shown}
+use Rattle.gtd_schedule.proofs.MomentParts.{from_is, from_shown, until_is, until_shown}
 use Rattle.gtd_schedule.proofs.line.write_span.Goals as goal
 
 -- the whole buffer, once its last bytes were written over by as many
@@ -26,20 +26,6 @@ write_moment-requires-2-clause-shown c =
     until_shown c.args.shown.now (drop c.args.head c.args.line.now.items) c.requires.shown c.split_at_mut-from.result.1.now
     (c.split_at_mut-from.ensures.back ∙ ap (drop 20) (c.split_at_mut-moments.ensures.back
     ∙ ap (drop c.args.head) c.as_mut_slice.ensures.value))
-
-pub write_moment-requires-clause-other : goal.write_moment-requires-clause-other
-write_moment-requires-clause-other c =
-    let k = until_shown c.args.shown.now (drop c.args.head c.args.line.now.items) c.requires.shown
-    c.split_at_mut-from.result.1.now
-    (c.split_at_mut-from.ensures.back ∙ ap (drop 20) (c.split_at_mut-moments.ensures.back
-    ∙ ap (drop c.args.head) c.as_mut_slice.ensures.value)) in
-    dated k.second c.args.shown.now.until c.split_at_mut-from.result.1.now k.rest k.kept k.is
-
-pub write_moment-requires-2-clause-other : goal.write_moment-requires-2-clause-other
-write_moment-requires-2-clause-other c =
-    dated c.args.span.from c.write_moment.new.shown c.write_moment.new.text _
-    (rw (c.from.ensures.value) at c.write_moment.ensures.kept)
-    (rw (c.from.ensures.value) at c.write_moment.ensures.text)
 
 pub returns-clause-line : goal.returns-clause-line
 returns-clause-line c =

@@ -7,7 +7,7 @@ use Rattle.std.proofs.lemmas.List.{take_at, length-take-le}
 use Rattle.gtd_core.specs.Seconds.{Interval}
 use Rattle.gtd_report.specs.declared.output.Stop.TheVariants.{Output}
 use Rattle.gtd_report.specs.facts.PutFacts.{one_put, one_short}
-use Rattle.gtd_schedule.specs.Handed.{IsReady, line_of}
+use Rattle.gtd_schedule.specs.Handed.{IsReady, line_of, progress_of}
 use Rattle.gtd_schedule.specs.Lines.{span_text}
 use Rattle.gtd_schedule.specs.Moments.{AreMoments}
 use Rattle.gtd_schedule.specs.declared.elements.SpanLine.{SpanLine}
@@ -36,23 +36,35 @@ moments_after shown head line rest n long is are =
 some_bytes : (front : List ℕ) → 0 < length (front ++ 10 ∷ [])
 some_bytes front = let count = length-append front (10 ∷ []) in omega arith
 
-pub put_whole-requires-clause-written : goal.put_whole-requires-clause-written
-put_whole-requires-clause-written g c =
+pub overflow_add-self : goal.overflow_add-self
+overflow_add-self g c =
     let ready = c.requires.ready.1 in
     let l = c.args.self.now in
-    let is = c.as_slice.ensures.value ∙ written_line _ l c.args.span _ _ ready c.write_span.ensures.line in
-    let short : length c.as_slice.result.now ≤ 80 =
+    let is = c.as_slice-line.ensures.value ∙ written_line _ l c.args.span _ _ ready c.write_span.ensures.line in
+    let short : length c.as_slice-line.result.now ≤ 80 =
     rw is (length-put_line l.at.element l.at.direction l.vehicle c.args.span ready.element ready.type) in
     let room = ready.written in
+    omega arith
+
+pub overflow_add-self-in-Err : goal.overflow_add-self-in-Err
+overflow_add-self-in-Err g c =
+    let ready = c.requires.ready.1 in
+    let l = c.args.self.now in
+    let is = c.as_slice-line.ensures.value ∙ written_line _ l c.args.span _ _ ready c.write_span.ensures.line in
+    let short : length c.as_slice-line.result.now ≤ 80 =
+    rw is (length-put_line l.at.element l.at.direction l.vehicle c.args.span ready.element ready.type) in
+    let room = ready.written in
+    let taken = c.in-Err.ensures.some.0 in
     omega arith
 
 pub returns-in-Ok-clause-takes : goal.returns-in-Ok-clause-takes
 returns-in-Ok-clause-takes g c =
     let l = c.args.self.now in
-    let is = c.as_slice.ensures.value ∙ written_line _ l c.args.span _ _ c.requires.ready.1 c.write_span.ensures.line in
+    let is = c.as_slice-line.ensures.value ∙ written_line _ l c.args.span _ _ c.requires.ready.1 c.write_span.ensures.line in
     let put = c.in-Ok.ensures in record {
-      put = one_put (line_of l c.args.span) (g.O.Output.taken c.args.output.now) (g.O.Output.taken c.put_whole.new.output)
-          l.progress c.put_whole.new.progress (rw is at put.all) (rw is at put.progress);
+      put = one_put (line_of l c.args.span) (g.O.Output.taken c.args.output.now) (g.O.Output.taken c.put_bytes.new.output)
+          (progress_of l) record { lines = l.lines + 1; written = l.written + length c.as_slice-line.result.now }
+          (rw is at put.all) (ap (λ (n : List ℕ). record { lines = l.lines + 1; written = l.written + length n }) is);
       failures = put.failures;
       at = refl;
       vehicle = refl;
@@ -61,8 +73,8 @@ returns-in-Ok-clause-takes g c =
 pub returns-in-Ok-clause-ready : goal.returns-in-Ok-clause-ready
 returns-in-Ok-clause-ready g c = λ t more ready.
     let l = c.args.self.now in
-    let is = c.as_slice.ensures.value ∙ written_line _ l c.args.span _ _ ready c.write_span.ensures.line in
-    let short : length c.as_slice.result.now ≤ 80 =
+    let is = c.as_slice-line.ensures.value ∙ written_line _ l c.args.span _ _ ready c.write_span.ensures.line in
+    let short : length c.as_slice-line.result.now ≤ 80 =
     rw is (length-put_line l.at.element l.at.direction l.vehicle c.args.span ready.element ready.type) in
     let long = length-take-le l.head l.line.items ready.room in
     let front = take l.head l.line.items in
@@ -74,8 +86,8 @@ returns-in-Ok-clause-ready g c = λ t more ready.
       element = ready.element;
       type = ready.type;
       shown = ready.shown.2;
-      written = rw c.in-Ok.ensures.progress (omega arith);
-      lines = rw c.in-Ok.ensures.progress (omega arith);
+      written = omega arith;
+      lines = omega arith;
       room = kept.0;
       head = kept.1 ∙ ready.head;
       moments = moments_after c.write_span.new.shown front c.write_span.new.line.items (span_text c.args.span) l.head long
@@ -85,11 +97,11 @@ returns-in-Ok-clause-ready g c = λ t more ready.
 pub returns-in-Err-clause-takes : goal.returns-in-Err-clause-takes
 returns-in-Err-clause-takes g c =
     let l = c.args.self.now in
-    let is = c.as_slice.ensures.value ∙ written_line _ l c.args.span _ _ c.requires.ready.1 c.write_span.ensures.line in
+    let is = c.as_slice-line.ensures.value ∙ written_line _ l c.args.span _ _ c.requires.ready.1 c.write_span.ensures.line in
     let put = c.in-Err.ensures in record {
-      put = one_short Output (line_of l c.args.span) c.in-Err.field-0.taken (g.O.Output.taken c.args.output.now)
-          (g.O.Output.taken c.put_whole.new.output) l.progress c.put_whole.new.progress (rw is at put.some.0)
-          (rw is at put.some.1) put.progress;
+      put = one_short Output (line_of l c.args.span) c.in-Err.short.taken (g.O.Output.taken c.args.output.now)
+          (g.O.Output.taken c.put_bytes.new.output) (progress_of l)
+          record { lines = l.lines; written = l.written + c.in-Err.short.taken } (rw is at put.some.0) (rw is at put.some.1) refl;
       failures = put.failures;
       at = refl;
       vehicle = refl;
