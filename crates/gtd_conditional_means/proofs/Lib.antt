@@ -1,4 +1,3 @@
 pub mod TableFacts
 pub mod RowFacts
-pub mod MeaningFacts
 pub mod PlaceFacts

@@ -1,16 +1,19 @@
 //! The fields of a row.
 
-ghost use Rattle.std.specs.Prelude.{◌≡◌, Some, false, true, IfOk, MatchOption};
+ghost use Rattle.std.specs.Prelude.{◌≡◌, List, Some, false, true, IfOk, MatchOption};
 ghost use Rattle.csv.specs.Records.{fields_of};
 ghost use Rattle.gtd_conditional_means.specs.Comparisons.{normal_of};
 ghost use Rattle.gtd_conditional_means.specs.Names as names;
+ghost use Rattle.gtd_conditional_means.specs.Places.{AreOf};
 ghost use Rattle.gtd_conditional_means.specs.Rows.{IsAnswer, IsMeaning, IsRow, fault_of, has_types, is_meant, row_fault};
 ghost use Rattle.gtd_conditional_means.specs.declared.meaning.MeansKind.{MeansKind};
+ghost use Rattle.gtd_conditional_means.specs.declared.meaning.MeansRow.{MeansRow};
 
 use crate::comparison::normal_form;
 use crate::fault::MeansFault;
 use crate::meaning::{Access, Meaning, MeansKind, MeansRow};
-use crate::means::{known_access, meaning_in};
+use crate::means::known_access;
+use crate::places::Places;
 use crate::rows::{Columns, three_columns};
 use crate::words::{is_lower_word, is_some_text};
 use csv::ByteRecord;
@@ -115,10 +118,10 @@ fn read_meaning(alloc: Global, kind: MeansKind, text: &[u8]) -> Result<Option<Me
 }
 
 // Whether a name stands for something of the kind before.
-fn is_repeated(before: &[MeansRow], kind: MeansKind, name: &[u8]) -> bool
-    ensures { result ≡ names.is_repeated before.now kind name.now }
+fn is_repeated(places: &Places, kind: MeansKind, name: &[u8]) -> bool
+    ensures { (before : List MeansRow) → AreOf before places.now → result ≡ names.is_repeated before kind name.now }
 {
-    is_known(kind, name) || meaning_in(before, kind, name).is_some()
+    is_known(kind, name) || places.of(kind, name).is_some()
 }
 
 // Whether a name is a value of access that no table needs.
@@ -175,15 +178,16 @@ fn row_of(alloc: Global, name: &[u8], meaning: Meaning) -> Result<MeansRow, Allo
 fn read_kind_row(
     alloc: Global,
     number: u32,
-    before: &[MeansRow],
+    places: &Places,
     kind: MeansKind,
     columns: Columns<'_>,
 ) -> Result<Result<MeansRow, MeansFault>, AllocError>
-    ensures { IfOk result (λ answer. IsAnswer (row_fault number before.now kind columns.entry.name.now columns.entry.means.now)
+    ensures { (before : List MeansRow) → AreOf before places.now
+        → IfOk result (λ answer. IsAnswer (row_fault number before kind columns.entry.name.now columns.entry.means.now)
         kind columns.entry.name.now columns.entry.means.now answer) }
 {
     let named = is_name(alloc, kind, columns.name)?;
-    let repeated = is_repeated(before, kind, columns.name);
+    let repeated = is_repeated(places, kind, columns.name);
     let Some(meaning) = read_meaning(alloc, kind, columns.means)? else {
         return Ok(Err(fault_without(number, kind, named, repeated)));
     };
@@ -193,15 +197,15 @@ fn read_kind_row(
     }
 }
 
-/// What the row with this number says, or its first fault, if these rows were read before. `AllocError` is answered only if
-/// memory was refused.
+/// What the row with this number says, or its first fault, if these are the places of the rows that were read before.
+/// `AllocError` is answered only if memory was refused.
 pub(crate) fn read_row(
     alloc: Global,
     number: u32,
-    before: &[MeansRow],
+    places: &Places,
     row: &ByteRecord,
 ) -> Result<Result<MeansRow, MeansFault>, AllocError>
-    ensures { IfOk result (IsRow number before.now (fields_of row.now)) }
+    ensures { (before : List MeansRow) → AreOf before places.now → IfOk result (IsRow number before (fields_of row.now)) }
 {
     let Some(columns) = three_columns(row) else {
         return Ok(Err(MeansFault::FieldCount { row: number }));
@@ -209,5 +213,5 @@ pub(crate) fn read_row(
     let Some(kind) = kind_of(columns.kind) else {
         return Ok(Err(MeansFault::Kind { row: number }));
     };
-    read_kind_row(alloc, number, before, kind, columns)
+    read_kind_row(alloc, number, places, kind, columns)
 }

@@ -1,6 +1,6 @@
 //! A table of means, and what it says of names.
 
-ghost use Rattle.std.specs.Prelude.{◌≡◌, None, Some, IfOk, MatchOption};
+ghost use Rattle.std.specs.Prelude.{◌≡◌, None, Some, MatchOption};
 ghost use Rattle.std.proofs.Props.{props};
 ghost use Rattle.gtd_conditional_means.specs.Meanings as spec;
 ghost use Rattle.gtd_conditional_means.specs.Names.{is_there};
@@ -11,7 +11,7 @@ use crate::fault::MeansFault;
 use crate::meaning::{Access, Meaning, MeansKind, MeansRow};
 use crate::places::Places;
 use gtd_records::Vehicles;
-use std::alloc::{AllocError, Global};
+use std::alloc::AllocError;
 
 /// A table of means: its rows, in their order. Of modes, that is from general to specific.
 #[derive(Drop)]
@@ -43,54 +43,6 @@ impl From<AllocError> for Unread {
     }
 }
 
-/// Whether a meaning is of a kind.
-pub(crate) fn is_of_kind(kind: MeansKind, meaning: &Meaning) -> bool
-    ensures { result ≡ spec.is_of_kind kind meaning.now }
-{
-    match kind {
-        MeansKind::Mode => match meaning {
-            Meaning::Mode(_) => true,
-            _ => false,
-        },
-        MeansKind::Condition => match meaning {
-            Meaning::Condition(_) => true,
-            _ => false,
-        },
-        MeansKind::Value => match meaning {
-            Meaning::Value(_) => true,
-            _ => false,
-        },
-        MeansKind::Ignore => match meaning {
-            Meaning::Ignore => true,
-            _ => false,
-        },
-    }
-}
-
-// Whether a row is of a kind and has a name.
-fn is_row_of(kind: MeansKind, name: &[u8], row: &MeansRow) -> bool
-    ensures { result ≡ spec.is_row_of kind name.now row.now }
-{
-    is_of_kind(kind, &row.meaning) && row.name.as_slice() == name
-}
-
-/// What the first row of a kind and a name says.
-pub(crate) fn meaning_in<'a>(
-    rows: &'a [MeansRow],
-    kind: MeansKind,
-    name: &[u8],
-) -> Option<&'a Meaning>
-    ensures said { MatchOption result (spec.meaning_of kind name.now rows.now ≡ None)
-        (λ meaning. spec.meaning_of kind name.now rows.now ≡ Some meaning.now) }
-{
-    for row in rows {
-        if is_row_of(kind, name, row) {
-            return Some(&row.meaning);
-        }
-    }
-    None
-}
-
 /// What a value of access says that no table needs.
 pub(crate) fn known_access(name: &[u8]) -> Option<Access>
     ensures { result ≡ spec.known_access name.now }
@@ -108,12 +60,12 @@ pub(crate) fn known_access(name: &[u8]) -> Option<Access>
 }
 
 impl Means {
-    /// The table of these rows. `AllocError` is answered only if memory was refused.
-    pub(crate) fn new(alloc: Global, rows: Vec<MeansRow>) -> Result<Means, AllocError>
-        ensures { IfOk result (λ means. means.rows.items ≡ rows.items) }
+    /// The table of these rows, whose places these are.
+    pub(crate) fn new(rows: Vec<MeansRow>, places: Places) -> Means
+        requires { AreOf rows.items places }
+        ensures { result.rows ≡ rows }
     {
-        let places = Places::new(alloc, rows.as_slice())?;
-        Ok(Means { rows, places })
+        Means { rows, places }
     }
 
     // What the first row of a kind and a name says.

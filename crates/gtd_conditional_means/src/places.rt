@@ -1,11 +1,12 @@
 //! Where the names of a table stand among its rows.
 
-ghost use Rattle.std.specs.Prelude.{◌≡◌, ◌<◌, ℕ, List, Some, IfOk, OnOk, if◌then◌else◌, length};
+ghost use Rattle.std.specs.Prelude.{◌≡◌, ◌++◌, ◌∷◌, [], ℕ, List, None, Some, OnOk, if◌then◌else◌, length};
+ghost use Rattle.std.specs.Option.{option_or};
 ghost use Rattle.std.specs.Str.{bytes_eq};
 ghost use Rattle.gtd_conditional_means.specs.Places as spec;
+ghost use Rattle.gtd_conditional_means.specs.declared.meaning.MeansRow.{MeansRow};
 
 use crate::meaning::{MeansKind, MeansRow};
-use crate::means::is_of_kind;
 use std::alloc::{AllocError, Global};
 use std::collections::BTreeMap;
 
@@ -33,41 +34,53 @@ fn put_name(
     Ok(())
 }
 
-// The places of the names of a kind. The rows are gone over from the last to the first, so that the first of a name remains.
-fn of_kind(
+// Keeps the place of a name, unless one is kept.
+fn put_first(
     alloc: Global,
-    kind: MeansKind,
-    rows: &[MeansRow],
-) -> Result<BTreeMap<Vec<u8>, usize>, AllocError>
-    ensures { IfOk result (spec.AreOfKind kind rows.now) }
+    places: &mut BTreeMap<Vec<u8>, usize>,
+    name: &[u8],
+    place: usize,
+) -> Result<(), AllocError>
+    ensures { OnOk result ((other : List ℕ) → spec.place_in places.new other
+        ≡ option_or (spec.place_in places.old other) (if bytes_eq name.now other then Some place else None)) }
 {
-    let mut places = BTreeMap::new(alloc);
-    let mut at = rows.len();
-    while 0 < at {
-        at -= 1;
-        let row = &rows[at];
-        if is_of_kind(kind, &row.meaning) {
-            put_name(alloc, &mut places, row.name.as_slice(), at)?;
-        }
+    if places.contains_key(name) {
+        return Ok(());
     }
-    Ok(places)
+    put_name(alloc, places, name, place)
 }
 
 impl Places {
-    /// The places of rows.
-    pub(crate) fn new(alloc: Global, rows: &[MeansRow]) -> Result<Places, AllocError>
-        ensures { IfOk result (spec.AreOf rows.now) }
+    /// Those of no rows. Takes no memory.
+    pub(crate) fn none(alloc: Global) -> Places
+        ensures { spec.AreOf [] result }
     {
-        let modes = of_kind(alloc, MeansKind::Mode, rows)?;
-        let conditions = of_kind(alloc, MeansKind::Condition, rows)?;
-        let values = of_kind(alloc, MeansKind::Value, rows)?;
-        let ignored = of_kind(alloc, MeansKind::Ignore, rows)?;
-        Ok(Places {
-            modes,
-            conditions,
-            values,
-            ignored,
-        })
+        Places {
+            modes: BTreeMap::new(alloc),
+            conditions: BTreeMap::new(alloc),
+            values: BTreeMap::new(alloc),
+            ignored: BTreeMap::new(alloc),
+        }
+    }
+
+    /// Keeps the place of a row that comes after so many others, unless one of these has its kind and name. `AllocError` is
+    /// answered only if memory was refused.
+    pub(crate) fn put(
+        &mut self,
+        alloc: Global,
+        row: &MeansRow,
+        place: usize,
+    ) -> Result<(), AllocError>
+        ensures { OnOk result ((rows : List MeansRow) → place ≡ length rows → spec.AreOf rows self.old
+            → spec.AreOf (rows ++ row.now ∷ []) self.new) }
+    {
+        let name = row.name.as_slice();
+        match row.meaning.kind() {
+            MeansKind::Mode => put_first(alloc, &mut self.modes, name, place),
+            MeansKind::Condition => put_first(alloc, &mut self.conditions, name, place),
+            MeansKind::Value => put_first(alloc, &mut self.values, name, place),
+            MeansKind::Ignore => put_first(alloc, &mut self.ignored, name, place),
+        }
     }
 
     /// The place that is kept of a name of a kind. Takes no memory.

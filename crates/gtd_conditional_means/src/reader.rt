@@ -19,5 +19,5 @@ pub fn read_means(alloc: Global, bytes: &[u8]) -> Result<Means, Unread>
     if !found.faults.is_empty() {
         return Err(Unread::Faults(found.faults));
     }
-    Ok(Means::new(alloc, found.rows)?)
+    Ok(Means::new(found.rows, found.places))
 }

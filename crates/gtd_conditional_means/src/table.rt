@@ -1,14 +1,16 @@
 //! The text of a table: its header and its rows.
 
-ghost use Rattle.std.specs.Prelude.{◌≡◌, ◌∷◌, [], ◌↔◌, IfOk, IsTrue};
+ghost use Rattle.std.specs.Prelude.{◌≡◌, ◌++◌, ◌∷◌, [], ◌↔◌, IfOk, IsTrue, OnOk};
 ghost use Rattle.csv.specs.Reading.{default_config, records, strip_bom};
 ghost use Rattle.csv.specs.Records.{fields_of};
+ghost use Rattle.gtd_conditional_means.specs.Places.{AreOf};
 ghost use Rattle.gtd_conditional_means.specs.Table.{AreOfBytes, AreTable, header};
 ghost use Rattle.gtd_conditional_means.specs.declared.fault.MeansFault.{MeansFault};
 
 use crate::fault::MeansFault;
 use crate::fields::read_row;
 use crate::meaning::MeansRow;
+use crate::places::Places;
 use crate::rows::three_columns;
 use csv::ByteRecord;
 use gtd_core::limits::MOST_FILE_BYTES;
@@ -23,6 +25,8 @@ const MOST_TABLE_ROWS: u32 = 4096;
 pub(crate) struct Found {
     pub(crate) alloc: Global,
     pub(crate) rows: Vec<MeansRow>,
+    // Where the names of these rows stand among them, by which a name that comes again is seen.
+    pub(crate) places: Places,
     pub(crate) faults: Vec<MeansFault>,
 }
 
@@ -42,11 +46,36 @@ impl RowTaker for Found {
             self.faults.push(MeansFault::TooManyRows)?;
             return Ok(false);
         }
-        match read_row(self.alloc, number, self.rows.as_slice(), row)? {
-            Ok(read) => self.rows.push(read)?,
+        match read_row(self.alloc, number, &self.places, row)? {
+            Ok(read) => add_row(self, read)?,
             Err(why) => self.faults.push(why)?,
         }
         Ok(true)
+    }
+}
+
+// Adds a row that is read.
+fn add_row(found: &mut Found, row: MeansRow) -> Result<(), AllocError>
+    ensures rows { OnOk result (found.new.rows.items ≡ found.old.rows.items ++ row ∷ []) }
+    ensures faults { found.new.faults ≡ found.old.faults }
+    ensures placed { OnOk result (AreOf found.old.rows.items found.old.places → AreOf found.new.rows.items found.new.places) }
+{
+    found.places.put(found.alloc, &row, found.rows.len())?;
+    found.rows.push(row)?;
+    Ok(())
+}
+
+// Nothing found so far.
+fn nothing(alloc: Global) -> Found
+    ensures rows { result.rows.items ≡ [] }
+    ensures placed { AreOf [] result.places }
+    ensures faults { result.faults.items ≡ [] }
+{
+    Found {
+        alloc,
+        rows: Vec::new(alloc),
+        places: Places::none(alloc),
+        faults: Vec::new(alloc),
     }
 }
 
@@ -65,27 +94,21 @@ fn is_header(row: &ByteRecord) -> bool
 // A single fault.
 fn alone(alloc: Global, why: MeansFault) -> Result<Found, AllocError>
     ensures rows { IfOk result (λ found. found.rows.items ≡ []) }
+    ensures placed { IfOk result (λ found. AreOf found.rows.items found.places) }
     ensures faults { IfOk result (λ found. found.faults.items ≡ why ∷ []) }
 {
-    let mut faults = Vec::new(alloc);
-    faults.push(why)?;
-    Ok(Found {
-        alloc,
-        rows: Vec::new(alloc),
-        faults,
-    })
+    let mut found = nothing(alloc);
+    found.faults.push(why)?;
+    Ok(found)
 }
 
 // What the records of a table's bytes say, if there are not too many bytes.
 fn read_text(alloc: Global, bytes: &[u8]) -> Result<Found, AllocError>
-    ensures { IfOk result
+    ensures table { IfOk result
         (λ found. AreTable (records default_config (strip_bom bytes.now)) found.rows.items found.faults.items) }
+    ensures placed { IfOk result (λ found. AreOf found.rows.items found.places) }
 {
-    let mut found = Found {
-        alloc,
-        rows: Vec::new(alloc),
-        faults: Vec::new(alloc),
-    };
+    let mut found = nothing(alloc);
     match take_rows(alloc, bytes, &mut found)? {
         RowsEnd::NoHeader => alone(alloc, MeansFault::Header),
         RowsEnd::All => Ok(found),
@@ -96,7 +119,8 @@ fn read_text(alloc: Global, bytes: &[u8]) -> Result<Found, AllocError>
 
 /// The rows of a table's bytes that are read, and the faults of the others. `AllocError` is answered only if memory was refused.
 pub(crate) fn read_rows(alloc: Global, bytes: &[u8]) -> Result<Found, AllocError>
-    ensures { IfOk result (λ found. AreOfBytes bytes.now found.rows.items found.faults.items) }
+    ensures table { IfOk result (λ found. AreOfBytes bytes.now found.rows.items found.faults.items) }
+    ensures placed { IfOk result (λ found. AreOf found.rows.items found.places) }
 {
     if bytes.len() > MOST_FILE_BYTES {
         return alone(alloc, MeansFault::TooLarge);
