@@ -1,4 +1,3 @@
 pub mod Faults
 pub mod Dated
 pub mod Parts
-pub mod Reading

@@ -17,7 +17,7 @@ use std::alloc::{AllocError, AllocFailed, Global};
 
 /// Why parts could not be read.
 #[derive(Drop)]
-pub(crate) enum PartError {
+pub enum PartError {
     /// Memory was refused.
     NoMemory,
     /// The token at this offset is out of range.

@@ -112,8 +112,8 @@ fn dated(
     Err(offset)
 }
 
-// The offset of the last token.
-fn last_place(tokens: &[Token]) -> usize
+/// The offset of the last token, or 0.
+pub fn last_place(tokens: &[Token]) -> usize
     ensures { result ≡ last_place tokens.now }
 {
     let mut rest = tokens;

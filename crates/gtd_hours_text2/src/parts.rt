@@ -87,7 +87,7 @@ fn check_always(tokens: &[Token]) -> Result<(), PartError>
 
 /// Adds the parts of tokens that are cut off, after the part before them.
 #[tactic(auto, using(crate::proofs::Answering::gives_same))]
-pub(crate) fn push_parts(
+pub fn push_parts(
     alloc: Global,
     out: &mut Vec<RulePart>,
     cut: Cut,

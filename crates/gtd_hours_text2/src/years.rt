@@ -23,7 +23,7 @@ fn number_class(value: u16, digits: u8) -> Class
 }
 
 /// What a token is to the grammar.
-pub(crate) fn class_of(kind: TokenKind) -> Class
+pub fn class_of(kind: TokenKind) -> Class
     ensures { result ≡ class_of kind }
 {
     match kind {
@@ -77,7 +77,8 @@ pub(crate) fn after(tokens: &[Token]) -> &[Token]
     }
 }
 
-pub(crate) fn place_of(tokens: &[Token]) -> usize
+/// The offset of the first token, or 0.
+pub fn place_of(tokens: &[Token]) -> usize
     ensures { result ≡ place_of tokens.now }
 {
     match tokens {

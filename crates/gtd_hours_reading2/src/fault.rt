@@ -1,4 +1,9 @@
-//! What is wrong with a text, and what is written loosely in it.
+//! What is wrong with a text.
+
+ghost use Rattle.std.specs.Prelude.{◌≡◌};
+ghost use Rattle.gtd_hours_reading2.specs.declared.fault.ReadError.TheVariants as errors;
+
+use std::alloc::AllocError;
 
 /// What is wrong with a text of opening hours.
 #[derive(Clone, Copy, Debug, PartialEq, Eq)]
@@ -42,4 +47,21 @@ pub struct HoursFault {
     pub kind: HoursFaultKind,
     /// The number of bytes before it.
     pub offset: usize,
+}
+
+/// Why a text was not read.
+#[derive(Drop, Debug)]
+pub enum ReadError {
+    /// Memory was refused.
+    NoMemory,
+    /// The text has this fault.
+    Fault(HoursFault),
+}
+
+impl From<AllocError> for ReadError {
+    ghost from_gives = { λ _ e. e ≡ errors.NoMemory };
+
+    fn from(_e: AllocError) -> ReadError {
+        ReadError::NoMemory
+    }
 }

@@ -1,0 +1,4 @@
+pub mod Reading
+pub mod Seen
+pub mod Longest
+pub mod TokenPlaces
