@@ -1,9 +1,12 @@
 """Builds a wheel that holds the library and both programs, and is tagged for the platform that they run on.
 
 They are taken from the folder ``gtd/native`` if it is there (as in a source distribution), or otherwise from the paths in the
-environment variables ``LIBGTD``, ``GTD`` and ``GTDESK``, or otherwise from where the repository builds them.
+environment variables ``LIBGTD``, ``GTD`` and ``GTDESK``, or otherwise from where the repository builds them. A wheel lacks those
+that are nowhere: the package then looks for them on the system, and says what is missing when it is needed. A wheel that holds
+none of them is for any platform.
 """
 
+import logging
 import os
 import re
 import shutil
@@ -29,21 +32,28 @@ BUILT = {
 
 
 def found():
-    """The path of the library and of each program, by the names that the wheel gives them."""
+    """The path of the library and of each program that is there, by the names that the wheel gives them."""
     paths = {}
     for name, (variable, built) in BUILT.items():
-        held = HERE / NATIVE / name
-        paths[name] = held if held.exists() else Path(os.environ.get(variable) or built)
-        if not paths[name].is_file():
-            raise SystemExit(f"no {name} at {paths[name]}: build it, or name it by the environment variable {variable}")
+        held, named = HERE / NATIVE / name, os.environ.get(variable)
+        path = held if held.exists() else Path(named or built)
+        if path.is_file():
+            paths[name] = path
+        elif named:
+            raise SystemExit(f"no {name} at {path}, which the environment variable {variable} names")
     return paths
 
 
 def put(folder):
-    """Copy the library and the programs into the package below a folder."""
-    target = Path(folder) / NATIVE
-    target.mkdir(parents=True, exist_ok=True)
-    for name, path in found().items():
+    """Copy the library and the programs that are there into the package below a folder."""
+    target, paths = Path(folder) / NATIVE, found()
+    for name in BUILT:
+        if name not in paths:
+            logging.warning("the package is built without %s: %s names it, or it is looked for on the system", name, BUILT[name][0])
+            (target / name).unlink(missing_ok=True)  # of an earlier build
+    if paths:
+        target.mkdir(parents=True, exist_ok=True)
+    for name, path in paths.items():
         if path.resolve() != (target / name).resolve():
             shutil.copyfile(path, target / name)
         (target / name).chmod(0o755)
@@ -56,10 +66,10 @@ def platform():
 
 
 class WithNative(Distribution):
-    """A distribution that belongs to a platform."""
+    """A distribution that belongs to a platform, if it holds the library or a program."""
 
     def has_ext_modules(self):
-        return True
+        return bool(found())
 
 
 class BuildPackage(build_py):
@@ -79,10 +89,10 @@ class SourceWithNative(sdist):
 
 
 class PlatformWheel(bdist_wheel):
-    """A wheel for any Python 3 on the platform: nothing in it is compiled against Python."""
+    """A wheel for any Python 3 on the platform, or on any: nothing in it is compiled against Python."""
 
     def get_tag(self):
-        return "py3", "none", platform()
+        return "py3", "none", platform() if found() else "any"
 
 
 setup(

@@ -17,6 +17,7 @@ True
 :mod:`gtd.ical`.
 """
 
+from gtd._desk import Mended, conditions, faults, mend
 from gtd._diff import diff
 from gtd._domain import Apart, Change, Domain, canon, check, contains, next_change, next_change_ever
 from gtd._fault import Fault
@@ -26,6 +27,7 @@ from gtd._record_set import ElementChange, Records
 from gtd._records import migrate, schedule, year
 from gtd._same import Difference, first_difference, same
 from gtd._series import Domains
+from gtd._version import __version__
 
 __all__ = [
     "Apart",
@@ -36,14 +38,19 @@ __all__ = [
     "ElementChange",
     "Fault",
     "LibraryNotFound",
+    "Mended",
     "ProgramNotFound",
     "Records",
+    "__version__",
     "canon",
     "check",
+    "conditions",
     "contains",
     "diff",
+    "faults",
     "first_difference",
     "library",
+    "mend",
     "migrate",
     "next_change",
     "next_change_ever",

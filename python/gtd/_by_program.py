@@ -16,11 +16,12 @@ from numpy.typing import NDArray
 from gtd._cutting import HEADER
 from gtd._fault import Fault
 from gtd._moments import DAY, END_OF_WORDS, LONGEST, Seconds, date_at, moment_at
-from gtd._program import run, run_desk
+from gtd._program import memory, run, run_desk
 from gtd._questions import Place
 
 _LONGEST_WORD = 100_000  # bytes; Linux takes words of at most 131,071
 _FAR = 100  # days
+_MOST_QUESTIONS = 2_000_000  # of one run of `gtdesk ask`
 _DIFFER = 4  # the status of `gtdesk same` if the domains differ
 
 Spans = Callable[[int, int], Seconds]
@@ -79,9 +80,9 @@ class DomainByProgram:
         """Its canonical text."""
         return self.ask("canon")
 
-    def words(self) -> str:
-        """What it says, in plain English."""
-        return run_desk("words", "--", self.canon()).decode().rstrip("\n")
+    def words(self, lang: str = "en") -> str:
+        """What it says, in plain English or in another language."""
+        return run_desk("words", "--lang", lang, "--", self.canon()).decode().rstrip("\n")
 
     def picture(self, year: int) -> str:
         """The picture of a year."""
@@ -186,6 +187,27 @@ class RecordsByProgram:
         if element in self.elements():
             return numpy.zeros((0, 2), dtype="int64")
         return numpy.array([days], dtype="int64") * DAY
+
+
+def closed_by_ask(records: bytes, questions: NDArray[Any]) -> NDArray[numpy.bool_]:
+    """Whether some record of a file closes in positive directions, for each question: by as few runs of ``gtdesk`` as can be."""
+    answers = [numpy.zeros(0, dtype=bool)]
+    with memory() as file:
+        file.write(records)
+        file.flush()
+        for begin in range(0, len(questions), _MOST_QUESTIONS):
+            given = _as_questions(questions[begin : begin + _MOST_QUESTIONS])
+            printed = run_desk("ask", f"/dev/fd/{file.fileno()}", given=given, files=(file.fileno(),))
+            states = pandas.read_csv(io.BytesIO(printed), usecols=["state"], dtype="category")["state"]
+            answers.append((states == "closed").to_numpy())
+    return numpy.concatenate(answers)
+
+
+def _as_questions(questions: NDArray[Any]) -> bytes:
+    """Questions as ``gtdesk ask`` reads them."""
+    moments = numpy.datetime_as_string(questions["second"].astype("datetime64[s]")).tolist()
+    asked = zip(questions["element"].tolist(), questions["vehicle"].tolist(), moments)
+    return ("element,direction,vehicle,moment\n" + "".join("%d,positive,%d,%s\n" % row for row in asked)).encode()
 
 
 def domain_of_hours(hours: str) -> str:

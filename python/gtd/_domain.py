@@ -19,6 +19,7 @@ from gtd._moments import day, days, is_column, moment_at, search, second_of, sec
 
 _EPOCH = datetime(1970, 1, 1).toordinal()
 _FIRST_YEAR, _LAST_YEAR = 1901, 2199  # of pictures
+_LANGUAGES = ("en", "de", "fr")
 _FIRST_MOMENT = "1901-01-01T00:00:00"
 _Engine = Union[DomainInProcess, DomainByProgram]
 
@@ -45,9 +46,9 @@ class Domain:
     """A time domain that is read once and asked many times.
 
     Seconds are of the local civil clock, without a time zone. Moments are ``datetime.datetime``, ``pandas.Timestamp`` or
-    ``numpy.datetime64``, or texts ``YYYY-MM-DDThh:mm:ss``; days are dates, moments at midnight, or texts ``YYYY-MM-DD``. They lie
-    from 1901-01-01 up to and not including 2700-01-01, where nothing else is said. In a notebook a domain shows as the picture of
-    the current year.
+    ``numpy.datetime64``, or texts ``YYYY-MM-DDThh:mm:ss``, with ``T`` or a space; days are dates, moments at midnight, or texts
+    ``YYYY-MM-DD``. They lie from 1901-01-01 up to and not including 2700-01-01, where nothing else is said. In a notebook a
+    domain shows as the picture of the current year.
 
     Parameters
     ----------
@@ -222,9 +223,11 @@ class Domain:
         """
         return self.apart(other) is None
 
-    def words(self) -> str:
-        """What the domain says, in plain English."""
-        return self._engine.words()
+    def words(self, lang: str = "en") -> str:
+        """What the domain says, in plain English; or in German (``'de'``) or French (``'fr'``), by the program ``gtdesk``."""
+        if lang not in _LANGUAGES:
+            raise ValueError(f"the languages are {', '.join(_LANGUAGES)}, not {lang!r}")
+        return self._engine.words() if lang == "en" else DomainByProgram(self.canon()).words(lang)
 
     def canon(self) -> str:
         """Its canonical text; two domains are the same expression exactly if theirs are equal."""

@@ -8,6 +8,7 @@ from typing import Any, Callable, Dict, Optional, Tuple
 _LINE = re.compile(r"fault (?:row (?P<row>\d+) )?(?P<kind>\w+(?: \w+)?)(?: at (?P<place>\d+))?")
 _HOURS = re.compile(r"gtdesk: TEXT: (?P<kind>\w+) at (?P<place>\d+)")
 _OF_TWO = re.compile(r"gtdesk: (?P<side>FIRST|SECOND): (?P<kind>\w+) at (?P<place>\d+)")  # the fault of one of two texts
+_OF_ROWS = ("FieldCount", "Element", "Direction", "Vehicle")
 _SHOWN = 100  # characters of a text that a message shows
 
 
@@ -50,6 +51,21 @@ class Fault(ValueError):
         self.kind, self.place, self.row, self.text, self.caret = kind, place, row, text, caret
         self.file, self.line, self.note = file, line, note
         super().__init__(self._message())
+
+    @property
+    def expected(self) -> Optional[str]:
+        """What is accepted at the place of the fault of a domain, of opening hours or of a row, as ``'0 to 23 for an hour'``. The
+        program ``gtdesk`` says it when it is asked for; None where there is no such program, or nothing to say.
+        """
+        from gtd._desk import expected_of  # which needs this module
+
+        is_row = self.kind in _OF_ROWS or self.kind.startswith("Domain ")
+        if self.text is None or (self.place is None and not is_row):
+            return None
+        try:
+            return expected_of(self.kind, self.text, is_row)
+        except (OSError, RuntimeError, Fault):
+            return None
 
     def _message(self) -> str:
         """The fault in words; below it the text, and a caret below the place."""

@@ -29,16 +29,16 @@ END_OF_WORDS = 7_258_118_400  # 2200-01-01: the moments that a word of a command
 
 _EPOCH = date(1970, 1, 1).toordinal()
 _EPOCH_MOMENT = datetime(1970, 1, 1)
-_STAMP = re.compile(r"(\d{4})-(\d\d)-(\d\d)T(\d\d):(\d\d):(\d\d)", re.ASCII)
+_STAMP = re.compile(r"(\d{4})-(\d\d)-(\d\d)[T ](\d\d):(\d\d):(\d\d)", re.ASCII)
 _DATE = re.compile(r"(\d{4})-(\d\d)-(\d\d)", re.ASCII)
 _ZONE = "a moment is of the local civil clock and has no time zone: take moment.replace(tzinfo=None)"
 _ZONES = "moments are of the local civil clock and have no time zone: take column.dt.tz_localize(None)"
 
 
 def stamp(moment: Moment) -> str:
-    """``YYYY-MM-DDThh:mm:ss``."""
+    """``YYYY-MM-DDThh:mm:ss``. A text may have a space in place of the ``T``, as pandas prints moments."""
     if isinstance(moment, str):
-        return moment
+        return f"{moment[:10]}T{moment[11:]}" if moment[10:11] == " " else moment
     if isinstance(moment, numpy.datetime64):
         if numpy.isnat(moment):
             raise ValueError("the moment is NaT")

@@ -11,7 +11,7 @@ from functools import lru_cache
 from typing import IO, Optional, Sequence
 
 from gtd._fault import read_fault
-from gtd._library import BUNDLED
+from gtd._library import BUNDLED, NAME, LibraryNotFound, load
 
 LARGEST_FILE = 16_777_216  # bytes of a record file
 MOST_ROWS = 65_536  # rows of a record file
@@ -43,8 +43,18 @@ def program(name: str = "gtd") -> str:
     if found is None and named:
         raise ProgramNotFound(f"the environment variable {variable} names {named!r}, which is no program that can be run")
     if found is None:
-        raise ProgramNotFound(f"no program {name}: put it on PATH, or set the environment variable {variable} to its path")
+        way = f"put it on PATH, or set the environment variable {variable} to its path"
+        raise ProgramNotFound(f"no program {name}: {way}{_lacks_library()}")
     return os.path.abspath(found)
+
+
+def _lacks_library() -> str:
+    """What to say of the library where a program is missing."""
+    try:
+        found = load()
+    except LibraryNotFound:
+        found = None
+    return "" if found else f". Most calls need no program where the library {NAME} is: install it, or name it by LIBGTD"
 
 
 @lru_cache(maxsize=None)
@@ -77,7 +87,12 @@ def run(*words: str, given: bytes = b"", into: Optional[IO[bytes]] = None) -> by
 
 
 def run_desk(
-    *words: str, given: bytes = b"", into: Optional[IO[bytes]] = None, answers: Sequence[int] = (0,), files: Sequence[int] = ()
+    *words: str,
+    given: bytes = b"",
+    into: Optional[IO[bytes]] = None,
+    answers: Sequence[int] = (0,),
+    files: Sequence[int] = (),
+    notes: Optional[IO[bytes]] = None,
 ) -> bytes:
     """What ``gtdesk`` prints when it reads ``given`` from ``/dev/stdin``, if it ends with one of these statuses; raises what
     :func:`run` raises.
@@ -88,8 +103,10 @@ def run_desk(
         As in :func:`run`.
     files : sequence of int
         The descriptors of open files that the words name, as ``/dev/fd/7``.
+    notes : binary file, optional
+        Takes what is said on standard error of a run that ends so.
     """
-    return _run(program("gtdesk"), words, given, into, answers, files)
+    return _run(program("gtdesk"), words, given, into, answers, files, notes)
 
 
 def _run(
@@ -99,6 +116,7 @@ def _run(
     into: Optional[IO[bytes]],
     answers: Sequence[int] = (0,),
     files: Sequence[int] = (),
+    notes: Optional[IO[bytes]] = None,
 ) -> bytes:
     # Files in memory and not pipes: Python feeds a pipe in pieces of 4 KiB, and the processes would wait for each other
     # each time.
@@ -108,6 +126,8 @@ def _run(
         output = printed if into is None else into
         done = subprocess.run([path, *words], stdin=source, stdout=output, stderr=subprocess.PIPE, pass_fds=tuple(files))
         if done.returncode in answers:
+            if notes is not None:
+                notes.write(done.stderr)
             printed.seek(0)
             return printed.read()
     said = done.stderr.decode("utf-8", "replace").strip()

@@ -112,12 +112,29 @@ def _numbers(given: Any, kind: str, limits: Tuple[int, int]) -> Any:
         return number
     values = numpy.asarray(given)
     if values.dtype.kind not in "iu":
-        values = numpy.fromiter(map(operator.index, values.tolist()), dtype="int64", count=len(values))
+        values = _whole(given, kind)
     beyond = (values < least) | (values > greatest)
     if beyond.any():
         row = int(beyond.argmax())
         raise Fault(kind, row=row + 1, text=str(values[row]))
     return values
+
+
+def _whole(given: Any, kind: str) -> NDArray[numpy.int64]:
+    """The whole numbers of a column that may lack values."""
+    missing = numpy.asarray(pandas.isna(given))
+    if missing.any():
+        raise Fault(kind, row=int(missing.argmax()) + 1, note="the value is missing")
+    numbers = []
+    for value in numpy.asarray(given, dtype=object).tolist():
+        try:
+            numbers.append(operator.index(value))
+        except TypeError as error:
+            raise TypeError(f"row {len(numbers) + 1}: {error}") from None
+    beyond = next((row for row, number in enumerate(numbers) if not -(2**63) <= number < 2**63), None)
+    if beyond is not None:
+        raise Fault(kind, row=beyond + 1, text=str(numbers[beyond]))
+    return numpy.array(numbers, dtype="int64")
 
 
 def _negatives(given: Any) -> Any:
@@ -129,5 +146,7 @@ def _negatives(given: Any) -> Any:
     known = numpy.array([*(name in ("positive", "negative") for name in names), False])[codes]
     if not known.all():
         row = int(known.argmin())
+        if codes[row] < 0:
+            raise Fault("Direction", row=row + 1, note="the value is missing")
         raise Fault("Direction", row=row + 1, text=str(numpy.asarray(given, dtype=object)[row]))
     return numpy.array([*(name == "negative" for name in names), False])[codes]

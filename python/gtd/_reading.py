@@ -92,10 +92,24 @@ def _as_file(frame: pandas.DataFrame) -> bytes:
             f"there are {', '.join(map(str, frame.columns))}"
         )
     rows = pandas.DataFrame(frame.loc[:, ["element", "direction", vehicles[0], "domain"]])
+    for name in ("element", vehicles[0]):
+        rows[name] = _numbers_of(rows[name])
     text: str = rows.to_csv(index=False, lineterminator="\n")
     if "\r" in text:  # an end of a line, too, which Python does not put in quotes by itself
         text = rows.to_csv(index=False, lineterminator="\n", quoting=csv.QUOTE_ALL)
     return text.encode("utf-8", "replace")
+
+
+def _numbers_of(column: pandas.Series) -> pandas.Series:
+    """A column of elements or of vehicle types, as a record file has it: several types in one field, and no decimals.
+
+    A missing value has pandas keep whole numbers as floating-point ones. Only the row that lacks one is at fault for that.
+    """
+    if column.dtype.kind == "f" and column.isna().any() and (column.dropna() % 1 == 0).all():
+        return column.astype("Int64")
+    if column.dtype == object:
+        return column.map(lambda value: ";".join(map(str, value)) if isinstance(value, (list, tuple, numpy.ndarray)) else value)
+    return column
 
 
 def row_of(file: bytes, row: int) -> bytes:

@@ -29,8 +29,8 @@ def schedule(records: RecordsLike, first: Day, until: Day, vehicle: int) -> pand
     records : str, os.PathLike, bytes, binary file or pandas.DataFrame
         A record file: its path (``.gz`` if gzip has packed it), its bytes, or an open file, of at most 65,536 rows and
         16,777,216 bytes; :mod:`gtd.country` reads larger ones. Or a frame of any size with the columns ``element``,
-        ``direction``, ``vehicle`` (or ``vehicles``) and ``domain``; its other columns are ignored, and a missing value in
-        ``domain`` is the empty domain: always closed.
+        ``direction``, ``vehicle`` (or ``vehicles``, of texts as ``11;12`` or of lists as ``[11, 12]``) and ``domain``; its other
+        columns are ignored, and a missing value in ``domain`` is the empty domain: always closed.
     first, until : datetime.date, datetime.datetime at midnight, numpy.datetime64 at midnight or str
         The days up to but not including ``until``: from 1901-01-01 to 2700-01-01, at most 146,098 of them. A str has the
         form ``YYYY-MM-DD``.

@@ -10,10 +10,11 @@ import numpy
 import pandas
 from numpy.typing import NDArray
 
+from gtd._by_program import closed_by_ask
 from gtd._cutting import HEADER, stretches
 from gtd._fault import Fault, in_domain
 from gtd._in_process import open_domain
-from gtd._library import YES, Held, Library, TextFault, answers_of, done, load, text_of
+from gtd._library import QUESTION, YES, Held, Library, TextFault, answers_of, done, load, text_of
 from gtd._moments import END_OF_WORDS, Moment, Moments, Seconds, is_column, moment_at, second_of, seconds_of
 from gtd._program import LARGEST_FILE, run
 
@@ -25,8 +26,8 @@ class Domains:
     """A column of time domains, as ``frame.domain.gtd``.
 
     Each different text is read once. As in a record file, an empty text or a missing value is the domain that always holds.
-    Without the library, the program is run once, and not once for each row: it gets the texts as the rows of one record file, or
-    of as few files as can hold them.
+    Without the library, a program is run once, and not once for each row or moment: it gets the texts as the rows of one record
+    file, or of as few files as can hold them.
 
     >>> import pandas, gtd
     >>> domains = pandas.Series(["(h07){m30h1}", "[(t2){d5}]", None])
@@ -154,12 +155,26 @@ class Domains:
         return found
 
     def _held_by_program(self, seconds: Seconds) -> NDArray[numpy.bool_]:
-        """The same: the program is run once for each second that differs."""
+        """The same, by one run of a program, however many seconds differ."""
+        if len(seconds) and seconds.min() == seconds.max():
+            return self._held_at(moment_at(int(seconds[0])))
         held = numpy.ones(len(seconds), dtype=bool)
-        for second in numpy.unique(seconds):
-            rows = seconds == second
-            held[rows] = self._held_at(moment_at(int(second)))[rows]
+        fields = self._fields()
+        for begin, end in self._files(fields, 1, 0):
+            rows = numpy.flatnonzero((self._codes >= begin) & (self._codes < end))
+            held[rows] = self._held_in(fields[begin:end], self._codes[rows] - begin, seconds[rows])
         return held
+
+    def _held_in(self, fields: List[bytes], elements: Seconds, seconds: Seconds) -> NDArray[numpy.bool_]:
+        """Whether the domain in each of these fields, by its place, contains its second."""
+        records = HEADER + b"".join(b"%d,both,1,%s\n" % row for row in enumerate(fields))
+        questions = numpy.zeros(len(elements), dtype=QUESTION)
+        questions["element"], questions["second"], questions["vehicle"] = elements, seconds, 1
+        try:
+            return closed_by_ask(records, questions)
+        except RuntimeError:
+            self._canonical()  # raises the first fault of the texts
+            raise
 
     def _held_at(self, asked: datetime) -> NDArray[numpy.bool_]:
         """Whether each domain contains a second, by one run of the program."""
@@ -195,13 +210,21 @@ class Domains:
 
         return self._asked(ask, 1, 0)
 
-    def _asked(self, ask: Callable[[List[bytes]], List[_Answer]], rows: int, more: int) -> List[_Answer]:
-        """The answers to all texts. Each takes ``rows`` rows; those beside the text's own have ``more`` bytes."""
-        fields = [b'"' + text.encode("utf-8", "replace").replace(b'"', b'""') + b'"' for text in self._texts]
+    def _fields(self) -> List[bytes]:
+        """Each text as a field of a record file."""
+        return [b'"' + text.encode("utf-8", "replace").replace(b'"', b'""') + b'"' for text in self._texts]
+
+    def _files(self, fields: List[bytes], rows: int, more: int) -> Iterator[Tuple[int, int]]:
+        """Which texts come into each file. Each takes ``rows`` rows; those beside the text's own have ``more`` bytes."""
         sizes = numpy.array([len(field) + 20 + more for field in fields], dtype="int64")
         begins = stretches(numpy.full(len(fields), rows), sizes, LARGEST_FILE - len(HEADER))
+        return zip(begins, begins[1:] + [len(fields)])
+
+    def _asked(self, ask: Callable[[List[bytes]], List[_Answer]], rows: int, more: int) -> List[_Answer]:
+        """The answers to all texts. Each takes ``rows`` rows; those beside the text's own have ``more`` bytes."""
+        fields = self._fields()
         answers: List[_Answer] = []
-        for begin, end in zip(begins, begins[1:] + [len(fields)]):
+        for begin, end in self._files(fields, rows, more):
             try:
                 answers += ask(fields[begin:end])
             except Fault as fault:

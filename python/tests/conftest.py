@@ -40,7 +40,7 @@ def pytest_configure(config):
     except gtd.ProgramNotFound as missing:
         pytest.exit(str(missing), 2)
     if gtd.library() is None:
-        pytest.exit("no library libgtd.so.0: set the environment variable LIBGTD to its path", 2)
+        config.issue_config_time_warning(pytest.PytestWarning("no library libgtd.so.0: what it answers is not tested"), 2)
 
 
 def without_library(monkeypatch):
@@ -53,6 +53,8 @@ def answering(request, monkeypatch):
     """Each test that names this fixture is run twice: the library answers, and then the programs do."""
     if request.param == "programs":
         without_library(monkeypatch)
+    elif gtd.library() is None:
+        pytest.skip("no library libgtd.so.0: set the environment variable LIBGTD to its path")
     return request.param
 
 

@@ -156,7 +156,7 @@ def test_the_first_and_the_last_second(answering, moment, inside):
         ("2024-02-29T23:60:00", "moment NoSuchDate"),
         ("2024-02-29T23:59:60", "moment NoSuchDate"),
         ("2024-02-29", "moment Shape"),
-        ("2024-02-29 00:00:00", "moment Shape"),
+        ("2024-02-29_00:00:00", "moment Shape"),
         ("2024-02-29T00:00:00\n", "moment Shape"),
         ("2024-02-29T00:00:0\N{ARABIC-INDIC DIGIT ONE}", "moment Shape"),
     ],

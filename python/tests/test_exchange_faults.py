@@ -165,11 +165,11 @@ def large(size):
 
 
 def test_a_large_publication():
-    """20 MB, of which one record is wanted, in two seconds of an idle core; a busy one gets twice as long here."""
+    """20 MB, of which one record is wanted, in two seconds of an idle core; a busy one gets five times as long here."""
     data = large(LARGE)
     begun = time.process_time()
     assert [found.id for found in datex.validities(io.BytesIO(data), READING, ["r1"])] == ["r1"]
-    assert time.process_time() - begun < 4
+    assert time.process_time() - begun < 10
 
 
 def test_a_larger_publication_needs_no_more_memory(tmp_path):

@@ -197,10 +197,72 @@ def test_records_of_an_extract(tmp_path):
         assert done.records == ["records-00000.csv"] and done.rows == len(lines)
         records = (out / "records-00000.csv").read_text().splitlines()
         assert records == ["element,direction,vehicles,domain", *lines]
-        assert read(out / "left_out.csv", "element,key,value,fault") == left_out
+        listed = read(out / "left_out.csv", LEFT_OUT)
+        assert [row[:4] for row in listed] == left_out
+        way_of = {element: str(way) for element, way, *_ in elements}
+        assert all(way == way_of[element] and told for element, _, _, _, way, told in listed)
         assert sum(done.at_fault.values()) == len({element for element, *_ in left_out})
 
 
+RELEASE = [
+    (5, False, [1, 2], [("access", "no")]),
+    (70, False, [1, 2], [("name", "a way without a tag of access")]),
+    (71, False, [2, 3], [("access", "perhaps"), ("hgv", "no")]),
+    (9_000_000_017, False, [1, 3], [("hgv", "no")]),
+]
+
+
+def test_elements_with_the_numbers_of_their_ways(tmp_path):
+    """So that a way has the same element in a release that has another way before it."""
+    (tmp_path / "means.csv").write_text(MEANS)
+    for name, ways in [("old", RELEASE), ("new", [(1, False, [1, 2], [("access", "no")]), *RELEASE])]:
+        written(ways, tmp_path / f"{name}.osm")
+        command = [str(tmp_path / f"{name}.osm"), "--means", str(tmp_path / "means.csv"), "--quiet"]
+        assert main([*command, "--ids", "way", "--records", "--out", str(tmp_path / name)]) == 4
+        rows = read(tmp_path / name / "elements.csv", "element,way,first_node,last_node")
+        assert [row[0] for row in rows] == [row[1] for row in rows] == ["1"] * (name == "new") + ["5", "71", "9000000017"]
+        records = gtd.migrate(tmp_path / name / "records-00000.csv")
+        assert records["element"].tolist() == [1] * (name == "new") + [5, 9_000_000_017]
+        assert [row[:5:4] for row in read(tmp_path / name / "left_out.csv", LEFT_OUT)] == [["71", "71"]]
+    changes = gtd.diff(*(tmp_path / name / "records-00000.csv" for name in ("old", "new")), "2024-01-01", "2024-01-02", 11)
+    assert set(changes["element"]) == {1} and set(changes["change"]) == {"closed"}
+
+
+@pytest.mark.parametrize("way", [-3, 10_000_000_000])
+def test_ways_whose_numbers_no_element_has(way, tmp_path):
+    written([(way, False, [1, 2], [("access", "no")])], tmp_path / "town.osm")
+    (tmp_path / "means.csv").write_text(MEANS)
+    with pytest.raises(gtd.Fault, match=f"way {way} has no number from 0") as raised:
+        osm.extract(tmp_path / "town.osm", tmp_path / "means.csv", tmp_path / "out", ids="way")
+    assert raised.value.kind == "Element" and not (tmp_path / "out").exists()
+
+
+def test_elements_left_out_are_closed(tmp_path):
+    """Always, in both directions, for all types; and the command then succeeds."""
+    written(RELEASE, tmp_path / "town.osm")
+    (tmp_path / "means.csv").write_text(MEANS)
+    words = tmp_path / "town.osm", tmp_path / "means.csv"
+    plain = osm.extract(*words, tmp_path / "plain", records=True)
+    done = osm.extract(*words, tmp_path / "closed", records=True, close_left_out=True)
+    assert done.at_fault == plain.at_fault == {"Value": 1} and done.rows == plain.rows + 1
+    lines = (tmp_path / "plain" / "records-00000.csv").read_text().splitlines()
+    closed = (tmp_path / "closed" / "records-00000.csv").read_text().splitlines()
+    assert closed == [*lines[:2], "2,both,0,", *lines[2:]]
+    records = gtd.Records(tmp_path / "closed" / "records-00000.csv")
+    asked = [(2, side, vehicle) for side in ("positive", "negative") for vehicle in (1, 99)]
+    assert all(records.closed_at(*where, "2024-01-01T00:00:00") for where in asked)
+    command = [str(words[0]), "--means", str(words[1]), "--quiet", "--records", "--close-left-out"]
+    assert main([*command, "--out", str(tmp_path / "command")]) == 0
+    for wrong in (["--close-left-out"], ["--ids", "way", "--first", "7"]):
+        with pytest.raises(SystemExit) as ended:
+            main([*command[:4], *wrong, "--out", str(tmp_path / "wrong")])
+        assert ended.value.code == 2
+    for options in ({"close_left_out": True}, {"ids": "way", "first": 7}, {"ids": "node"}):
+        with pytest.raises(ValueError):
+            osm.extract(*words, tmp_path / "wrong", **options)
+
+
+LEFT_OUT = "element,key,value,fault,way,expected"
 HOLIDAYS = "first,last,kind,name\n2026-01-01,2026-12-31,PH-covered,\n2026-12-25,,PH,Christmas\n"
 WAYS = [(1, False, [1, 2], [("access:conditional", "no @ (10:00-12:00; PH off)")])]
 
@@ -218,9 +280,10 @@ def test_hours_of_holidays(tmp_path):
     assert (element, direction, vehicles) == ("1", "both", "0")
     closed = gtd.Domain(domain)
     assert [closed.contains(f"{day}T11:00:00") for day in ("2026-12-24", "2026-12-25", "2027-12-25")] == [True, False, True]
-    assert main([*command, "--out", str(tmp_path / "without")]) == 0
-    left_out = read(tmp_path / "without" / "left_out.csv", "element,key,value,fault")
-    assert [fault for *_, fault in left_out] == ["Hours Holidays at 19"]
+    assert main([*command, "--out", str(tmp_path / "without")]) == 4
+    left_out = read(tmp_path / "without" / "left_out.csv", LEFT_OUT)
+    expected = "a table of such holidays: give one with --holidays FILE"
+    assert [row[3:] for row in left_out] == [["Hours Holidays at 19", "1", expected]]
     done = osm.extract(*command[:1], command[2], tmp_path / "years", records=True, hours={"holidays": tmp_path / "holidays.csv",
                                                                                         "years": "2026-2027"})
     assert done.at_fault == {"Hours Uncovered": 1}

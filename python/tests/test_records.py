@@ -163,7 +163,7 @@ def test_frames_that_are_no_records():
         gtd.migrate(FRAME.assign(vehicles="0"))
     with pytest.raises(gtd.Fault) as caught:
         gtd.migrate(FRAME.assign(element=[17, numpy.nan]))
-    assert caught.value.kind == "Element" and caught.value.text.startswith("17.0,")
+    assert (caught.value.kind, caught.value.row) == ("Element", 2) and caught.value.text.startswith(",")
 
 
 def test_files_that_are_not_there(tmp_path):

@@ -7,7 +7,7 @@ import pandas
 import pytest
 
 import gtd
-from gtd import _series
+from gtd import _by_program, _series
 from tests.conftest import model_of, without_library
 from tests.make_records import rows
 
@@ -99,6 +99,32 @@ def test_the_program_is_asked_once(monkeypatch):
     assert asked[1:] == ["schedule"]  # 24,000 texts differ
     sample = random.Random(2).sample(range(50_000), 20)
     assert [held[at] for at in sample] == [gtd.contains(column[at], "2024-01-01T05:10:00") for at in sample]
+
+
+def test_many_moments_are_asked_by_one_program(monkeypatch):
+    """Where there is no library. A text lasts an hour from its own hour on, so the hour of a moment tells what it contains."""
+    without_library(monkeypatch)
+    asked = []
+
+    def run_desk(*words, **more):
+        asked.append(words[0])
+        return real(*words, **more)
+
+    real = _by_program.run_desk
+    monkeypatch.setattr(_by_program, "run_desk", run_desk)
+    maker = numpy.random.default_rng(5)
+    hours, begin = maker.integers(0, 24, 20_000), numpy.datetime64("1950-01-01T00:00:00")
+    moments = begin + maker.integers(0, 240 * 365 * 86_400, 20_000).astype("timedelta64[s]")
+    column = pandas.Series([f"(h{hour}){{h1}}" for hour in hours], index=range(20_000, 40_000))
+    column.iloc[::7] = None
+    column.iloc[3::7] = ""
+    expected = (moments.astype("datetime64[h]").astype("int64") % 24 == hours) | (numpy.arange(20_000) % 7 == 0)
+    expected |= numpy.arange(20_000) % 7 == 3
+    pandas.testing.assert_series_equal(column.gtd.contains(moments), pandas.Series(expected, column.index))
+    assert asked == ["ask"]
+    monkeypatch.setattr(_by_program, "_MOST_QUESTIONS", 4_000)
+    assert column.gtd.contains(moments).tolist() == expected.tolist() and asked == ["ask"] * 6
+    assert column[:0].gtd.contains(moments[:0]).tolist() == []
 
 
 def test_texts_that_one_file_cannot_hold():

@@ -15,8 +15,12 @@ With ``records=True`` two more kinds are written, by the program ``gtdesk``:
 ``records-00000.csv``, ``records-00001.csv``...
     Record files of version 2, each within the limits of one, whose rows close the elements when their tags do.
 ``left_out.csv``
-    A row for each tag that is at fault, with the header ``element,key,value,fault``. Its element is left out of the records
-    whole, since a part of what its tags say could be taken for all of it.
+    A row for each tag that is at fault, with the header ``element,key,value,fault,way,expected``: the way of the element, and
+    what is accepted at the fault. The element is left out of the records whole, since a part of what its tags say could be taken
+    for all of it. With ``close_left_out=True`` a record always closes it.
+
+Elements are numbered in the order of the extract; with ``ids="way"`` each has the number of its way, so that the records of two
+releases of an extract can be compared.
 
 ::
 
@@ -50,9 +54,10 @@ import os
 from pathlib import Path
 from typing import Mapping, Optional, Union
 
+from gtd._desk import words_of
 from gtd._program import MOST_ROWS
 from gtd._staging import Staging
-from gtd.osm._conversion import convert, words_of
+from gtd.osm._conversion import convert
 from gtd.osm._means import read_names
 from gtd.osm._reading import read
 from gtd.osm._tables import LAST_ELEMENT, Tables
@@ -70,7 +75,9 @@ def extract(
     *,
     first: int = 1,
     rows_per_table: int = MOST_ROWS,
+    ids: str = "order",
     records: bool = False,
+    close_left_out: bool = False,
     hours: Optional[Mapping[str, _Path]] = None,
     show_progress: bool = False,
 ) -> Done:
@@ -87,10 +94,14 @@ def extract(
         The folder of the tables. It must not exist yet, or be an empty folder.
     first : int
         The number of the first element; the others follow in the order of the extract.
+    ids : {'order', 'way'}
+        Whether elements are numbered so, or each has the number of its way.
     rows_per_table : int
         1 to 65,536; an element with more tags has a table of its own.
     records : bool
         Write record files, too.
+    close_left_out : bool
+        With ``records``: whether elements of which a tag is at fault are always closed, and not open for lack of records.
     hours : mapping of str to str or os.PathLike
         What opening hours in values leave open, by the options of ``gtdesk conditions``: ``holidays`` (a file), ``years``,
         ``open-end``, ``points``, ``sunrise``, ``sunset``, ``dawn``, ``dusk`` and ``day-names``, as in
@@ -107,8 +118,8 @@ def extract(
     Fault
         Of the means ``'TooLarge'``, ``'Header'`` or ``'FieldCount'``. Of the extract ``'Extract'`` if it cannot be read as one,
         ``'Repeated'`` or ``'Order'`` if a way comes again or too late, ``'TooManyRows'`` or ``'TooLarge'`` if the tags of one
-        way do not fit into a table, and ``'Element'`` after the element 9,999,999,999. With ``records`` any fault of the means,
-        or of the table of holidays. Nothing is kept.
+        way do not fit into a table, and ``'Element'`` after the element 9,999,999,999, or for a way with no such number. With
+        ``records`` any fault of the means, or of the table of holidays. Nothing is kept.
     OSError
         A file cannot be opened or read; or the output exists already, is being written by another run, or cannot be written.
         Nothing is kept.
@@ -126,15 +137,21 @@ def extract(
         raise ValueError(f"the first element is 0 to {LAST_ELEMENT}, not {first}")
     if not 1 <= rows_per_table <= MOST_ROWS:
         raise ValueError(f"rows_per_table is 1 to {MOST_ROWS}, not {rows_per_table}")
+    if ids not in ("order", "way"):
+        raise ValueError(f"ids are 'order' or 'way', not {ids!r}")
+    if ids == "way" and first != 1:
+        raise ValueError("first is of elements that are numbered in order, and not by their ways")
+    if close_left_out and not records:
+        raise ValueError("close_left_out is of records: give records=True")
     options = words_of(hours or {})
     names = read_names(os.fspath(means))
     with Staging(Path(out).absolute(), False) as staging:
-        with Tables(staging.parts, first, rows_per_table) as tables:
+        with Tables(staging.parts, None if ids == "way" else first, rows_per_table) as tables:
             ways = Ways(os.fspath(path), names, tables)
             read(os.fspath(path), ways, show_progress)
         done = ways.done(tables)
         if records:
-            made = convert(staging.parts, done.parts, os.fspath(means), options)
+            made = convert(staging.parts, done.parts, os.fspath(means), options, close_left_out)
             done = done._replace(records=made.files, rows=made.rows, at_fault=made.left_out)
         staging.keep([], [], False)
     return done

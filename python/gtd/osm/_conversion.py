@@ -2,27 +2,38 @@
 
 from __future__ import annotations
 
+import contextlib
 import csv
 import os
 import re
 import subprocess
 from collections import Counter
 from pathlib import Path
-from typing import BinaryIO, Dict, List, Mapping, NamedTuple, Optional, Sequence, Tuple, Union
+from typing import BinaryIO, Dict, Iterable, Iterator, List, NamedTuple, Optional, Sequence, Tuple
 
 from gtd._fault import Fault
 from gtd._program import LARGEST_FILE, MOST_ROWS, program
 from gtd.osm._tables import field
 
 _RECORDS = b"element,direction,vehicles,domain\n"
-_LEFT_OUT = b"element,key,value,fault\n"
+_LEFT_OUT = b"element,key,value,fault,way,expected\n"
 _HEADER = "element,key,value\n"
 _LISTED = re.compile(r"-:\d+: row (?P<row>\d+): (?P<fault>(?P<kind>\w+(?: [A-Z]\w+)?)(?: at \d+)?(?:: [-\d]+)?)")
+_EXPECTED = re.compile(r"    expected: +(?P<expected>.*)")
 _OF_MEANS = re.compile(r".*:(?P<line>\d+): (?:row (?P<row>\d+): )?(?P<kind>\w+)")
 _OF_TABLE = re.compile(r"gtdesk: (?P<file>.*?)(?:: row (?P<row>\d+))?: (?P<kind>\w+)")
 _OF_WORD = re.compile(r"gtdesk: (?P<said>[-A-Z]+: .*)")
 
-OPTIONS = ("holidays", "years", "open-end", "points", "sunrise", "sunset", "dawn", "dusk", "day-names")
+
+class _Listed(NamedTuple):
+    """A row of tags that is at fault."""
+
+    row: int
+    """From 1."""
+    fault: str
+    kind: str
+    expected: str
+    """What is accepted there; empty if that is not said."""
 
 
 class Converted(NamedTuple):
@@ -36,22 +47,14 @@ class Converted(NamedTuple):
     """How many elements were left out, by the kind of the first fault of their tags."""
 
 
-def words_of(hours: Mapping[str, Union[str, "os.PathLike[str]"]]) -> List[str]:
-    """The options of ``gtdesk conditions`` with which hours are read; those that are files, by whole paths."""
-    wrong = sorted(set(hours) - set(OPTIONS))
-    if wrong:
-        raise ValueError(f"the options of hours are {', '.join(OPTIONS)}, not {', '.join(map(repr, wrong))}")
-    words: List[str] = []
-    for name, value in hours.items():
-        words += [f"--{name}", os.path.abspath(value) if name == "holidays" else os.fspath(value)]
-    return words
-
-
-def convert(folder: Path, parts: Sequence[str], means: str, options: Sequence[str] = ()) -> Converted:
+def convert(
+    folder: Path, parts: Sequence[str], means: str, options: Sequence[str] = (), close_left_out: bool = False
+) -> Converted:
     """Write the record files ``records-00000.csv``... of tables of tags in a folder, and ``left_out.csv``.
 
     An element of which a tag is at fault is left out whole: a part of what its tags say could be taken for all of it. Hours in
-    values are read with the options, as :func:`words_of` makes them.
+    values are read with the options, as :func:`gtd._desk.words_of` makes them. With ``close_left_out`` a record closes each such
+    element, in both directions, for all vehicle types and for ever.
 
     Raises
     ------
@@ -62,7 +65,7 @@ def convert(folder: Path, parts: Sequence[str], means: str, options: Sequence[st
     """
     kinds: Counter[str] = Counter()
     desk = _Desk(means, options)
-    with _Records(folder) as records, open(folder / "left_out.csv", "xb") as left_out:
+    with _Records(folder) as records, open(folder / "left_out.csv", "xb") as left_out, _ways(folder) as ways:
         left_out.write(_LEFT_OUT)
         for part in parts:
             with open(folder / part, newline="", encoding="utf-8") as file:
@@ -70,21 +73,47 @@ def convert(folder: Path, parts: Sequence[str], means: str, options: Sequence[st
             status, printed, said = desk.run(_table(rows))
             found = desk.faults(status, said)
             if found:
-                at_fault = {rows[row - 1][0] for row, _, _ in found}
-                kinds.update(_first_kinds(rows, found).values())
-                left_out.write("".join(_line([*rows[row - 1], fault]) for row, fault, _ in found).encode())
-                printed = desk.printed([row for row in rows if row[0] not in at_fault])
+                first_kinds = _first_kinds(rows, found)
+                kinds.update(first_kinds.values())
+                left_out.write("".join(_left_out_lines(rows, found, ways)).encode())
+                printed = desk.printed([row for row in rows if row[0] not in first_kinds])
+                if close_left_out:
+                    printed = _with_closed(printed, first_kinds)
             records.add(printed)
         done = records.files, records.rows
     return Converted(*done, dict(kinds.most_common()))
 
 
-def _first_kinds(rows: Sequence[Sequence[str]], found: Sequence[Tuple[int, str, str]]) -> Dict[str, str]:
+def _first_kinds(rows: Sequence[Sequence[str]], found: Sequence[_Listed]) -> Dict[str, str]:
     """For each element that is at fault the kind of its first fault."""
     kinds: Dict[str, str] = {}
-    for row, _, kind in found:
-        kinds.setdefault(rows[row - 1][0], kind)
+    for one in found:
+        kinds.setdefault(rows[one.row - 1][0], one.kind)
     return kinds
+
+
+@contextlib.contextmanager
+def _ways(folder: Path) -> Iterator[Iterator[List[str]]]:
+    """The rows of ``elements.csv``, in the order of the tables of tags."""
+    with open(folder / "elements.csv", newline="", encoding="ascii") as file:
+        yield csv.reader(file)
+
+
+def _left_out_lines(rows: Sequence[Sequence[str]], found: Sequence[_Listed], ways: Iterator[List[str]]) -> Iterator[str]:
+    """The lines of ``left_out.csv`` for the rows that are at fault, with their ways: those that come next among ``ways``."""
+    element, way = "", ""
+    for one in found:
+        tag = rows[one.row - 1]
+        while element != tag[0]:
+            element, way = next(ways)[:2]
+        yield _line([*tag, one.fault, way, one.expected])
+
+
+def _with_closed(printed: bytes, elements: Iterable[str]) -> bytes:
+    """A record file in ascending order of its elements, with a record for each of some more that always closes it."""
+    head, *lines = printed.splitlines(keepends=True)
+    lines += [f"{element},both,0,\n".encode() for element in elements]
+    return b"".join([head, *sorted(lines, key=lambda line: int(line.partition(b",")[0]))])
 
 
 class _Desk:
@@ -99,14 +128,20 @@ class _Desk:
         done = subprocess.run(words, input=tags, capture_output=True)
         return done.returncode, done.stdout, done.stderr.decode("utf-8", "replace")
 
-    def faults(self, status: int, said: str) -> List[Tuple[int, str, str]]:
-        """The row, the fault and its kind for each row that is at fault."""
+    def faults(self, status: int, said: str) -> List[_Listed]:
+        """Each row that is at fault."""
         if status == 0:
             return []
         lines = said.splitlines()
-        found = [listed for listed in map(_LISTED.fullmatch, lines) if listed]
+        found: List[_Listed] = []
+        for line in lines:
+            listed, expected = _LISTED.fullmatch(line), _EXPECTED.fullmatch(line)
+            if listed:
+                found.append(_Listed(int(listed["row"]), listed["fault"], listed["kind"], ""))
+            elif expected and found:
+                found[-1] = found[-1]._replace(expected=found[-1].expected or expected["expected"])
         if status == 1 and found:
-            return [(int(one["row"]), one["fault"], one["kind"]) for one in found]
+            return found
         self._refuse(status, lines[0] if lines else "")
         raise RuntimeError(f"gtdesk conditions ended with status {status}: {said.strip() or 'it said nothing'}")
 

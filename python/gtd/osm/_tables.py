@@ -22,13 +22,13 @@ class Tables:
     ----------
     folder : pathlib.Path
         Where they are written.
-    first : int
-        The number of the first element.
+    first : int or None
+        The number of the first element. None: the number of each is that of its way.
     rows_per_table : int
         How many rows a table of tags has at most, if they are of more than one element.
     """
 
-    def __init__(self, folder: Path, first: int, rows_per_table: int) -> None:
+    def __init__(self, folder: Path, first: Optional[int], rows_per_table: int) -> None:
         self.parts: List[str] = []
         self.elements, self.tags = 0, 0
         self._folder, self._first, self._most = folder, first, rows_per_table
@@ -48,9 +48,11 @@ class Tables:
         OSError
             The disk is full.
         """
-        element = self._first + self.elements
-        if element > LAST_ELEMENT:
+        element = way if self._first is None else self._first + self.elements
+        if element > LAST_ELEMENT and self._first is not None:
             raise Fault("Element", note=f"way {way} would be one more than {LAST_ELEMENT}")
+        if not 0 <= element <= LAST_ELEMENT:
+            raise Fault("Element", note=f"way {way} has no number from 0 to {LAST_ELEMENT}, as elements have")
         rows = "".join(f"{element},{field(key)},{field(value)}\n" for key, value in tags).encode()
         if len(tags) > MOST_ROWS:
             raise Fault("TooManyRows", note=f"way {way} has {len(tags):,} tags that matter, and a table has {MOST_ROWS:,} rows")
