@@ -80,6 +80,7 @@ part tests/hours.py 10 1
 part tests/holidays_model.py
 part tests/listed_days.py
 part tests/moments.py
+part tests/reading.py
 part tests/hidden_model.py
 part tests/conditional_model.py
 part tests/conditions_program.py 300 1
