@@ -355,6 +355,18 @@ def states(folder):
                schedule(folder.file("one_way", text), DAY))
 
 
+def covered(folder):
+    """Files of one element whose rows leave no second of a period open."""
+    minute = [f"(s{n}){{s1}}" for n in range(60)]
+    hour = [f"(m{n // 60}s{n % 60}){{s1}}" for n in range(3_600)]
+    for name, rows in (("60 rows, each a second of each minute", minute), ("3,600 rows, each a second of each hour", hour),
+                       ("60 rows, each a second of each minute, and a date", [*minute, "(M5d1){d1}"])):
+        file = folder.rows(f"covered_{len(rows)}", rows)
+        yield Case(f"one element, {name}, 400 years", schedule(file, LONGEST))
+        yield Case(f"one element, {name}, the year's table", year(file))
+        yield desk(name, ["picture", file, "1", "positive", "11", "2024"])
+
+
 def pictures(folder):
     """Pictures of more rectangles than an eye can see."""
     text = joined(hour_starts(MOST_BASIC))
@@ -407,8 +419,8 @@ def texts_twice(folder):
     for name, front in (("each minute", ""), ("each minute of an hour", "h7")):
         texts = [joined([f"[({front}s{first}){{s1}}*({front}s{(first + 1 + (number // 60 + pair) % 59) % 60}){{s1}}]"
                          for pair in range(9) for first in [(number + pair) % 60]]) for number in range(3_500)]
-        yield Case(f"7,000 elements, 3,500 texts of what begins {name}, a day",
-                   schedule(folder.elements(f"twice{front}", texts * 2), DAY))
+        yield Case(f"7,000 elements, 3,500 texts of what begins {name}, the year of one",
+                   year(folder.elements(f"twice{front}", texts * 2)))
 
 
 def vehicle_lists(folder):
@@ -529,6 +541,6 @@ def cases(path):
     folder = Folder(path)
     yield from domains()
     yield from words()
-    for group in (one_row, one_element, cursors, many_elements, states, pictures, rows_in_order, one_field, texts_twice,
-                  vehicle_lists, tags_of_ways, hours_rows, hours_texts):
+    for group in (one_row, one_element, cursors, many_elements, states, covered, pictures, rows_in_order, one_field,
+                  texts_twice, vehicle_lists, tags_of_ways, hours_rows, hours_texts):
         yield from group(folder)
