@@ -97,7 +97,7 @@ part tests/now_forms.py 40 1
 part tests/pictures.py
 part tests/library.sh
 part tests/sql.sh
-part tests/damaged.py 5000 1 bindings/out/mod_gtd.so
+part /usr/bin/python3 tests/damaged.py 5000 1 bindings/out/mod_gtd.so
 part tests/page.py
 part tests/packaging.sh
 part tests/python.sh

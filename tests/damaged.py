@@ -185,7 +185,7 @@ def check_sqlite(rng, path, kinds, count):
     for _ in range(count):
         call, text = asked(rng, kinds)
         try:
-            found = base.execute(f"SELECT {call.format('?')}", [text.decode("utf-8", "replace") if rng.random() < 0.8 else text])
+            found = base.execute(f"SELECT {call.replace('{}', '?')}", [text.decode("utf-8", "replace") if rng.random() < 0.8 else text])
             good += len(found.fetchall()) == 1
         except sqlite3.OperationalError as error:
             good += bool(str(error))
@@ -206,7 +206,8 @@ def check_postgres(rng, kinds, count):
             queries = []
             for _ in range(min(1000, count - first)):
                 call, text = asked(rng, kinds)
-                queries.append(f"SELECT {call.format(quoted(text.replace(bytes(1), b'?').decode('utf-8', 'replace')))}")
+                word = quoted(text.replace(bytes(1), b"?").decode("utf-8", "replace"))
+                queries.append(f"SELECT {call.replace('{}', word)}")
             for query, found in zip(queries, server.ask(queries)):
                 if found and found.startswith("error ") and not found.startswith(tuple(f"error {state}|" for state in STATES)):
                     bad.append(f"postgres: {query!r}: {found}")
