@@ -81,17 +81,22 @@ def test_moments_of_a_column_that_are_refused(answering):
         assert (caught.value.kind, caught.value.row) == (kind, row)
 
 
+def watched(monkeypatch, module, name):
+    """The first words of the commands that a module runs by one of its functions, as they are run."""
+    asked, run = [], getattr(module, name)
+
+    def watching(*words, **more):
+        asked.append(words[0])
+        return run(*words, **more)
+
+    monkeypatch.setattr(module, name, watching)
+    return asked
+
+
 def test_the_program_is_asked_once(monkeypatch):
     """Where there is no library."""
     without_library(monkeypatch)
-    asked = []
-
-    def run(*words, **more):
-        asked.append(words[0])
-        return real(*words, **more)
-
-    real = _series.run
-    monkeypatch.setattr(_series, "run", run)
+    asked = watched(monkeypatch, _series, "run")
     column = pandas.Series([f"(h{at % 24}){{s{at % 3000 + 1}}}" for at in range(50_000)])
     assert column.gtd.canon()[49_999] == gtd.canon(column[49_999])
     assert asked == ["migrate"]
@@ -104,14 +109,7 @@ def test_the_program_is_asked_once(monkeypatch):
 def test_many_moments_are_asked_by_one_program(monkeypatch):
     """Where there is no library. A text lasts an hour from its own hour on, so the hour of a moment tells what it contains."""
     without_library(monkeypatch)
-    asked = []
-
-    def run_desk(*words, **more):
-        asked.append(words[0])
-        return real(*words, **more)
-
-    real = _by_program.run_desk
-    monkeypatch.setattr(_by_program, "run_desk", run_desk)
+    asked = watched(monkeypatch, _by_program, "run_desk")
     maker = numpy.random.default_rng(5)
     hours, begin = maker.integers(0, 24, 20_000), numpy.datetime64("1950-01-01T00:00:00")
     moments = begin + maker.integers(0, 240 * 365 * 86_400, 20_000).astype("timedelta64[s]")
