@@ -1,7 +1,7 @@
 -- What is answered of elements that are like earlier ones.
 use Rattle.std.proofs.Common.{◌≡◌, ◌<◌, ◌≤◌, subst, sym, arith, inl, inr, ℕ, List, length, get_or}
 use Rattle.gtd_records.specs.Closing.{Restriction}
-use Rattle.gtd_records.specs.declared.direction.DirectedElement.{DirectedElement}
+use Rattle.gtd_rows.specs.declared.direction.DirectedElement.{DirectedElement}
 use Rattle.gtd_alike.specs.Alike.{AreFirstAlike, AreOpenAlike, asked_at}
 use Rattle.gtd_alike.specs.Firsts.{IsEarlier}
 

@@ -1,8 +1,8 @@
 -- When elements of a file are open at the same seconds.
 use Rattle.std.specs.Prelude.{◌≡◌, ◌<◌, ◌≤◌, ◌↔◌, ℕ, ℤ, List, length, get_or}
 use Rattle.gtd_records.specs.Closing.{IsOpen, Restriction}
-use Rattle.gtd_records.specs.declared.direction.DirectedElement.{DirectedElement}
-use Rattle.gtd_records.specs.declared.direction.Direction.TheVariants.{Positive}
+use Rattle.gtd_rows.specs.declared.direction.DirectedElement.{DirectedElement}
+use Rattle.gtd_rows.specs.declared.direction.Direction.TheVariants.{Positive}
 
 -- one of them, by how many are before it; past their end an element that says nothing
 abbrev pub asked_at : List DirectedElement → ℕ → DirectedElement

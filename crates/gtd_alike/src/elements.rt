@@ -5,7 +5,8 @@ ghost use Rattle.gtd_alike.specs.Alike.{AreFirstAlike};
 ghost use Rattle.gtd_alike.specs.Ready.{AreAlikeAt};
 
 use crate::firsts::{Likeness, firsts_of};
-use gtd_records::{DirectedElement, Records, are_closed_alike, hashes_of_closing};
+use gtd_records::{Records, are_closed_alike, hashes_of_closing};
+use gtd_rows::DirectedElement;
 use std::alloc::{AllocError, Global};
 
 /// Elements in a direction, with the records of their file. They are alike if they are open at the same seconds.

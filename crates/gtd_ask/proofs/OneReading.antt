@@ -4,7 +4,7 @@ use Rattle.std.proofs.Common.{List, [], ◌∷◌, ◌++◌, length}
 use Rattle.std.specs.Prelude.{nat_lt, if◌then◌else◌, Result, Ok, Err}
 use Rattle.std.proofs.lemmas.Bool.Decides.{nat_tests}
 use Rattle.csv.specs.Reading.{default_config, records, strip_bom}
-use Rattle.gtd_records.specs.Columns.{Fields}
+use Rattle.gtd_rows.specs.Columns.{Fields}
 use Rattle.gtd_ask.specs.Questions.{AreQuestions, AreRows, IsFile, IsTable, header, most_questions}
 use Rattle.gtd_ask.specs.Questions.{question_of}
 use Rattle.gtd_ask.specs.declared.fault.QuestionFault.{QuestionFault}

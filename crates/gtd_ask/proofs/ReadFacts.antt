@@ -6,9 +6,9 @@ use Rattle.std.specs.List.{All}
 use Rattle.csv.specs.Reading.{default_config, records, strip_bom}
 use Rattle.csv.specs.declared.reader.Reader.{Reader}
 use Rattle.gtd_core.specs.Seconds.{IsMomentSecond}
-use Rattle.gtd_records.specs.Table.{HasLeft, TakesFirst}
-use Rattle.gtd_records.specs.Columns.{Fields}
-use Rattle.gtd_records.specs.facts.RowsRead.{IsListing, RowsRead, all_read, none_read, row_left, row_read}
+use Rattle.gtd_rows.specs.Table.{HasLeft, TakesFirst}
+use Rattle.gtd_rows.specs.Columns.{Fields}
+use Rattle.gtd_rows.specs.facts.RowsRead.{IsListing, RowsRead, all_read, none_read, row_left, row_read}
 use Rattle.gtd_ask.specs.Questions.{AreQuestions, AreRows, IsFile, IsFirstFault, IsOfFile, IsTable, most_questions, question_of}
 use Rattle.gtd_ask.specs.declared.fault.QuestionFault.{QuestionFault}
 use Rattle.gtd_ask.specs.declared.fault.QuestionFault.TheVariants as fault

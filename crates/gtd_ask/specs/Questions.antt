@@ -7,8 +7,8 @@ use Rattle.gtd_core.specs.declared.second.Sec.{Sec}
 use Rattle.gtd_devices.specs.declared.whole.InputFault.{InputFault}
 use Rattle.gtd_devices.specs.declared.whole.InputFault.TheVariants as input
 use Rattle.gtd_moments.specs.Moments.{moment_in}
-use Rattle.gtd_records.specs.Columns.{Fields, direction_of, number_of}
-use Rattle.gtd_records.specs.declared.direction.Direction.{Direction}
+use Rattle.gtd_rows.specs.Columns.{Fields, direction_of, number_of}
+use Rattle.gtd_rows.specs.declared.direction.Direction.{Direction}
 use Rattle.gtd_ask.specs.declared.fault.QuestionFault.{QuestionFault}
 use Rattle.gtd_ask.specs.declared.fault.QuestionFault.TheVariants as fault
 use Rattle.gtd_ask.specs.declared.question.Question.{Question}

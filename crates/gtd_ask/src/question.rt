@@ -9,7 +9,7 @@ use crate::fault::QuestionFault;
 use csv::ByteRecord;
 use gtd_core::Sec;
 use gtd_moments::read_moment;
-use gtd_records::{Direction, four_columns, read_direction, read_number};
+use gtd_rows::{Direction, four_columns, read_direction, read_number};
 
 /// A question: whether an element is open in a direction, for a vehicle type from 1 to 99, at a second of the local civil clock.
 #[derive(Clone, Copy)]

@@ -5,8 +5,8 @@ ghost use Rattle.std.specs.Prelude.{IsTrue, length};
 ghost use Rattle.std.specs.List.{All};
 ghost use Rattle.csv.specs.Reading.{default_config, strip_bom, records};
 ghost use Rattle.csv.specs.Records.{fields_of};
-ghost use Rattle.gtd_records.specs.Columns.{Fields};
-ghost use Rattle.gtd_records.specs.Table.{HasLeft};
+ghost use Rattle.gtd_rows.specs.Columns.{Fields};
+ghost use Rattle.gtd_rows.specs.Table.{HasLeft};
 ghost use Rattle.gtd_core.specs.Seconds.{IsMomentSecond};
 ghost use Rattle.gtd_ask.specs.Questions.{AreRows, IsFile, IsOfFile, IsTable, header, most_questions};
 ghost use Rattle.gtd_ask.specs.Run.{failures_after_questions};
@@ -15,7 +15,7 @@ use crate::fault::QuestionFault;
 use crate::question::{Question, read_question};
 use csv::{ByteRecord, Reader};
 use gtd_devices::{Input, read_whole};
-use gtd_records::{four_columns, next_row, table};
+use gtd_rows::{four_columns, next_row, table};
 use std::alloc::Global;
 
 // The most bytes and the most rows of a file of questions.

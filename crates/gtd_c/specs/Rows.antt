@@ -4,7 +4,7 @@ use Rattle.std.specs.List.{All}
 use Rattle.gtd_core.specs.Limits.{most_rows}
 use Rattle.gtd_records.specs.Closing.{Restriction}
 use Rattle.gtd_records.specs.ClosingRows.{AreClosingRows}
-use Rattle.gtd_records.specs.declared.direction.Direction.{Direction}
+use Rattle.gtd_rows.specs.declared.direction.Direction.{Direction}
 use Rattle.gtd_handles.specs.Writing.{IsWritten}
 
 -- each is at most the number of the last row that a file may have

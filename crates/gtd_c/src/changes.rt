@@ -15,7 +15,8 @@ use crate::horizons::is_vehicle;
 use crate::records::{Way, way_of};
 use gtd_core::{Domain, Horizon, Sec};
 use gtd_handles::{Handle, KIND, MEMORY, NO, RANGE, Thing, YES};
-use gtd_records::{DirectedElement, Records, next_change};
+use gtd_records::{Records, next_change};
+use gtd_rows::DirectedElement;
 use std::alloc::Global;
 
 // The horizon from the day of the second up to the other day.

@@ -7,7 +7,7 @@ ghost use Rattle.gtd_handles.specs.Answers.{direction_of};
 ghost use Rattle.std.specs.Prelude.{◌≡◌};
 
 use gtd_core::limits::{DAY_SECONDS, FIRST_HORIZON_DAY, FIRST_MOMENT, HORIZONS_END, LAST_MOMENT};
-use gtd_records::Direction;
+use gtd_rows::Direction;
 
 /// Whether the second is from 1901-01-01 up to 2700-01-01, which is not included.
 pub(crate) fn is_second(second: i64) -> bool

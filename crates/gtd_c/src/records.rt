@@ -22,7 +22,8 @@ use gtd_eval::KeptCursor;
 use gtd_handles::{
     Given, Handle, KIND, MEMORY, NO, RANGE, SharedRecords, Thing, YES, open, open_spans,
 };
-use gtd_records::{Direction, RecordFault, Records, open_seconds, read_records};
+use gtd_records::{RecordFault, Records, open_seconds, read_records};
+use gtd_rows::Direction;
 use std::alloc::Global;
 
 // The records of a file of these bytes, or its first fault; or memory was refused.

@@ -9,7 +9,7 @@ use Rattle.gtd_core.specs.Seconds.{Interval}
 use Rattle.gtd_core.specs.Whole.{whole}
 use Rattle.gtd_core.specs.declared.horizon.Horizon.{Horizon}
 use Rattle.gtd_eval.specs.Membership.{IsNormalOver}
-use Rattle.gtd_records.specs.declared.direction.Direction.{Direction}
+use Rattle.gtd_rows.specs.declared.direction.Direction.{Direction}
 use Rattle.gtd_report.specs.facts.PutFacts.{puts_cut, puts_none, puts_then}
 use Rattle.gtd_report.specs.Putting.{Puts, most_direction_lines}
 use Rattle.gtd_report.specs.declared.output.Progress.{Progress}

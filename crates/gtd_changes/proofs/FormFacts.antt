@@ -8,7 +8,7 @@ use Rattle.gtd_spans.specs.facts.NormalFor.{normal-for}
 use Rattle.gtd_core.specs.declared.horizon.Horizon.{Horizon}
 use Rattle.gtd_eval.specs.Membership.{IsNormalOver}
 use Rattle.gtd_records.specs.Closing.{Restriction}
-use Rattle.gtd_records.specs.declared.direction.Direction.{Direction}
+use Rattle.gtd_rows.specs.declared.direction.Direction.{Direction}
 use Rattle.gtd_report.specs.Putting.{IsOne}
 use Rattle.gtd_report.specs.facts.ElementFacts.{one_by_element}
 use Rattle.gtd_report.specs.facts.SomeElements.{some_by_element}

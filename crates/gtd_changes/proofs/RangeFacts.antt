@@ -12,9 +12,9 @@ use Rattle.gtd_core.specs.Whole.{whole}
 use Rattle.gtd_core.specs.declared.horizon.Horizon.{Horizon}
 use Rattle.gtd_eval.specs.Membership.{IsNormalOver}
 use Rattle.gtd_records.specs.Closing.{AreElements, Closes, IsClosed, Restriction}
-use Rattle.gtd_records.specs.declared.direction.Direction.{Direction}
-use Rattle.gtd_records.specs.declared.direction.Direction.TheVariants.{Positive, Negative}
-use Rattle.gtd_records.specs.facts.Rising.{AllAbove, In, Rises, from_in}
+use Rattle.gtd_rows.specs.declared.direction.Direction.{Direction}
+use Rattle.gtd_rows.specs.declared.direction.Direction.TheVariants.{Positive, Negative}
+use Rattle.gtd_rows.specs.facts.Rising.{AllAbove, In, Rises, from_in}
 use Rattle.gtd_report.specs.Putting.{AreElementLines, AreLinesOf}
 use Rattle.gtd_report.specs.facts.SomeElements.{sorted}
 use Rattle.gtd_schedule.specs.Split.{HaveSameRows, IsSplitAt}

@@ -11,9 +11,9 @@ use Rattle.std.specs.Ordering.{nat_cmp}
 use Rattle.std.specs.Result.{is_ok}
 use Rattle.std.proofs.lemmas.List.Sorted.{Contains-permutation, IsPermutation-sym, searched}
 use Rattle.gtd_records.specs.Closing.{IsOpen, Restriction}
-use Rattle.gtd_records.specs.declared.direction.Direction.{Direction}
+use Rattle.gtd_rows.specs.declared.direction.Direction.{Direction}
 use Rattle.gtd_records.specs.facts.IndexFacts.{any_default, by_le}
-use Rattle.gtd_records.specs.facts.Rising.{In, from_in, to_in}
+use Rattle.gtd_rows.specs.facts.Rising.{In, from_in, to_in}
 use Rattle.std.proofs.Common.{◌-◌, add-zero}
 use Rattle.std.proofs.lemmas.List.{append-nil}
 use Rattle.gtd_changes.specs.Same.{AreAlikeBut, AreFound, IsRowAt, Meets, element_of, new_rows, old_rows}

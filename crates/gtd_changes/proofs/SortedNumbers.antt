@@ -10,8 +10,8 @@ use Rattle.std.proofs.lemmas.List.Kept.{Contains-dedup_nat, Contains-from_dedup}
 use Rattle.std.proofs.lemmas.List.Sorted.{Contains-permutation, IsPermutation-sym}
 use Rattle.std.proofs.lemmas.Map.Keys.{IsStrictlyIncreasing-dedup}
 use Rattle.gtd_records.specs.Closing.{AreElements, Restriction}
-use Rattle.gtd_records.specs.Columns.{IsSortedSet}
-use Rattle.gtd_records.specs.facts.Rising.{In, from_in, to_in}
+use Rattle.gtd_rows.specs.Columns.{IsSortedSet}
+use Rattle.gtd_rows.specs.facts.Rising.{In, from_in, to_in}
 use Rattle.gtd_report.specs.facts.SomeElements.{any_first, any_later, any_none, any_split}
 
 -- they are the same numbers in ascending order, each once

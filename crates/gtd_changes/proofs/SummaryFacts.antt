@@ -15,7 +15,7 @@ use Rattle.gtd_core.specs.declared.horizon.Horizon.{Horizon}
 use Rattle.gtd_core.specs.facts.Deciding.{Decided}
 use Rattle.gtd_eval.specs.Membership.{IsNormalOver}
 use Rattle.gtd_records.specs.Closing.{IsOpen, Restriction}
-use Rattle.gtd_records.specs.declared.direction.Direction.{Direction}
+use Rattle.gtd_rows.specs.declared.direction.Direction.{Direction}
 use Rattle.gtd_records.specs.facts.OpenDecisions.{open_or_not}
 use Rattle.gtd_report.specs.Putting.{IsOne}
 use Rattle.gtd_schedule.specs.Lines.{line_head}

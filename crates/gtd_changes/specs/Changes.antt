@@ -7,7 +7,7 @@ use Rattle.gtd_core.specs.declared.horizon.Horizon.{Horizon}
 use Rattle.gtd_calendar.specs.Stamp.{stamp_text}
 use Rattle.gtd_eval.specs.Membership.{IsNormalOver}
 use Rattle.gtd_records.specs.Closing.{IsClosed, IsOpen, Restriction}
-use Rattle.gtd_records.specs.declared.direction.Direction.{Direction}
+use Rattle.gtd_rows.specs.declared.direction.Direction.{Direction}
 use Rattle.gtd_report.specs.Putting.{IsByElement, direction_word}
 use Rattle.gtd_changes.specs.declared.change.Change.{Change}
 use Rattle.gtd_changes.specs.declared.change.Change.TheVariants.{Opened, Closed}

@@ -5,7 +5,7 @@ use Rattle.gtd_calendar.specs.Stamp.{stamp_text}
 use Rattle.gtd_eval.specs.Membership.{IsNormalOver}
 use Rattle.gtd_records.specs.Closing.{Restriction}
 use Rattle.gtd_records.specs.ClosingRows.{AreClosingRows}
-use Rattle.gtd_records.specs.declared.direction.Direction.{Direction}
+use Rattle.gtd_rows.specs.declared.direction.Direction.{Direction}
 use Rattle.gtd_report.specs.Putting.{direction_word}
 use Rattle.gtd_changes.specs.Changes.{BeginInTurn, WasClosed, WasOpened, change_word, closed_in, opened_in, span_of}
 use Rattle.gtd_changes.specs.declared.change.Change.{Change}

@@ -4,7 +4,7 @@ use Rattle.gtd_core.specs.Seconds.{Within}
 use Rattle.gtd_core.specs.Whole.{whole}
 use Rattle.gtd_core.specs.declared.horizon.Horizon.{Horizon}
 use Rattle.gtd_records.specs.Closing.{IsOpen, Restriction}
-use Rattle.gtd_records.specs.declared.direction.Direction.{Direction}
+use Rattle.gtd_rows.specs.declared.direction.Direction.{Direction}
 use Rattle.gtd_report.specs.Putting.{direction_word}
 use Rattle.gtd_spans.specs.Counting.{IsCount}
 use Rattle.gtd_changes.specs.Changes.{WasClosed, WasOpened}

@@ -2,7 +2,7 @@
 
 ghost use Rattle.std.specs.Prelude.{◌≡◌, ◌++◌, IfOk};
 ghost use Rattle.gtd_records.specs.Closing.{AreElements};
-ghost use Rattle.gtd_records.specs.Columns.{IsSortedSet};
+ghost use Rattle.gtd_rows.specs.Columns.{IsSortedSet};
 
 use gtd_records::Records;
 use std::alloc::{AllocError, Global};

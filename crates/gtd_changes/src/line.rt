@@ -11,8 +11,8 @@ ghost use Rattle.gtd_changes.specs.Rows.{change_start, numbers_text, rows_line};
 use crate::change::Change;
 use gtd_calendar::write_stamp;
 use gtd_core::Sec;
-use gtd_records::Direction;
 use gtd_report::DirectedElement;
+use gtd_rows::Direction;
 use itoa::Buffer;
 use std::alloc::AllocError;
 

@@ -7,7 +7,8 @@ ghost use Rattle.gtd_changes.specs.Compared.{rows_in};
 ghost use Rattle.gtd_changes.specs.Same.{AreAlikeBut, AreFound, IsRowAt, Meets, element_of, new_rows, old_rows};
 
 use gtd_core::Domain;
-use gtd_records::{Record, Records, Vehicles};
+use gtd_records::{Record, Records};
+use gtd_rows::Vehicles;
 use std::alloc::{AllocError, Global};
 
 /// Of so many rows one may differ, so that rows are seen to stand where they stood.

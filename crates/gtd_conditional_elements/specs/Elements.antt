@@ -1,7 +1,7 @@
 -- The rows of elements, in the order in which the elements first come, and which elements would need too many basic domains.
 use Rattle.std.specs.Prelude.{◌≡◌, ◌⊎◌, ◌↔◌, ℕ, ℤ, List, [], ◌∷◌, ◌++◌, map, Result, Ok, Err}
-use Rattle.gtd_records.specs.declared.direction.Direction.{Direction}
-use Rattle.gtd_records.specs.declared.direction.Direction.TheVariants.{Positive, Negative}
+use Rattle.gtd_rows.specs.declared.direction.Direction.{Direction}
+use Rattle.gtd_rows.specs.declared.direction.Direction.TheVariants.{Positive, Negative}
 use Rattle.gtd_conditional_means.specs.declared.meaning.MeansRow.{MeansRow}
 use Rattle.gtd_conditional_parts.specs.declared.said.Subject.{Subject}
 use Rattle.gtd_conditional_parts.specs.declared.said.Subject.TheVariants.{Access, Oneway}

@@ -1,7 +1,7 @@
 -- When the rows of a file's elements close an element.
 use Rattle.std.specs.Prelude.{◌≡◌, ◌⊎◌, ℕ, ℤ, List, [], ◌∷◌}
-use Rattle.gtd_records.specs.Closing.{ClosesDirection}
-use Rattle.gtd_records.specs.declared.direction.Direction.{Direction}
+use Rattle.gtd_rows.specs.Serving.{ClosesDirection}
+use Rattle.gtd_rows.specs.declared.direction.Direction.{Direction}
 use Rattle.gtd_conditional_means.specs.declared.meaning.MeansRow.{MeansRow}
 use Rattle.gtd_conditional_parts.specs.declared.said.Subject.TheVariants.{Access, Oneway}
 use Rattle.gtd_conditional_rows.specs.Times.{InTimes}

@@ -1,7 +1,7 @@
 //! The rows of an element.
 
 ghost use Rattle.std.specs.Prelude.{◌≡◌, ◌↔◌, ◌++◌, ℕ, ℤ, List, Err, IfOk, OnOk};
-ghost use Rattle.gtd_records.specs.declared.direction.Direction.TheVariants.{Positive, Negative};
+ghost use Rattle.gtd_rows.specs.declared.direction.Direction.TheVariants.{Positive, Negative};
 ghost use Rattle.gtd_conditional_rows.specs.declared.step.Step.{Step};
 ghost use Rattle.gtd_conditional_steps.specs.Closing.{IsClosedByTags};
 ghost use Rattle.gtd_conditional_elements.specs.Elements as spec;
@@ -11,7 +11,7 @@ use gtd_conditional_means::Means;
 use gtd_conditional_parts::Subject;
 use gtd_conditional_rows::{Row, RowsFault, rows_of, rows_of_both};
 use gtd_conditional_steps::{StepsFault, Tag, are_two_way, steps_of};
-use gtd_records::Direction;
+use gtd_rows::Direction;
 use std::alloc::{AllocError, Global};
 
 // Why there are no rows where there are no steps.

@@ -1,7 +1,7 @@
 //! Laws of the definitions: calls that do nothing, whose contracts are what is proved.
 
 ghost use Rattle.std.specs.Prelude.{◌↔◌, ℕ, ℤ, [], List};
-ghost use Rattle.gtd_records.specs.declared.direction.Direction.{Direction};
+ghost use Rattle.gtd_rows.specs.declared.direction.Direction.{Direction};
 ghost use Rattle.gtd_conditional_elements.specs.File.{AreOfFile};
 ghost use Rattle.gtd_conditional_elements.specs.FileClosing.{SomeCloses, TagsClose};
 ghost use Rattle.gtd_conditional_elements.specs.declared.found.ElementRow.{ElementRow};

@@ -15,8 +15,8 @@ use Rattle.gtd_migrate.proofs.MigrateFacts.{ArePrintable, IsPrintable, written, 
 use Rattle.gtd_migrate.specs.Migrated.{migrated}
 use Rattle.gtd_records.specs.Closing.{Restriction}
 use Rattle.gtd_records.specs.File.{IsFile}
-use Rattle.gtd_records.specs.declared.vehicles.Vehicles.{Vehicles}
-use Rattle.gtd_records.specs.declared.vehicles.Vehicles.TheVariants as vehicles
+use Rattle.gtd_rows.specs.declared.vehicles.Vehicles.{Vehicles}
+use Rattle.gtd_rows.specs.declared.vehicles.Vehicles.TheVariants as vehicles
 use Rattle.gtd_report.specs.Putting.{text_of}
 use Rattle.gtd_conditional_means.specs.declared.meaning.MeansRow.{MeansRow}
 use Rattle.gtd_conditional_rows.specs.Types.{HasType, IsVehicle}

@@ -4,9 +4,10 @@ use Rattle.std.specs.Prelude.{◌↔◌, ℤ, Any, Option, Some, None, option_ma
 use Rattle.gtd_core.specs.Parts.{domain_tree}
 use Rattle.gtd_core.specs.Trees.{Tree}
 use Rattle.gtd_core.specs.declared.domain.Domain.{Domain}
-use Rattle.gtd_records.specs.Closing.{Closes, ClosesDirection, HoldsAt, Restriction}
-use Rattle.gtd_records.specs.declared.direction.Closed.{Closed}
-use Rattle.gtd_records.specs.declared.direction.Direction.{Direction}
+use Rattle.gtd_records.specs.Closing.{Closes, HoldsAt, Restriction}
+use Rattle.gtd_rows.specs.Serving.{ClosesDirection}
+use Rattle.gtd_rows.specs.declared.direction.Closed.{Closed}
+use Rattle.gtd_rows.specs.declared.direction.Direction.{Direction}
 use Rattle.gtd_report.specs.facts.SomeElements.{any_first, any_later, any_none, any_split}
 use Rattle.gtd_conditional_elements.specs.FileClosing.{RowCloses, SomeCloses}
 use Rattle.gtd_conditional_elements.specs.declared.found.ElementRow.{ElementRow}

@@ -6,7 +6,7 @@ use Rattle.std.specs.List.{Contains}
 use Rattle.std.specs.List.Sorted.{IsStrictlyIncreasing}
 use Rattle.std.proofs.lemmas.Grind.{common_steps}
 use Rattle.std.proofs.lemmas.List.Elements.{Contains-append_left, Contains-get_or, Contains-push, Contains-push_cases}
-use Rattle.gtd_records.specs.declared.vehicles.Vehicles.TheVariants as vehicles
+use Rattle.gtd_rows.specs.declared.vehicles.Vehicles.TheVariants as vehicles
 use Rattle.gtd_conditional_rows.specs.Flags.{count_true}
 use Rattle.gtd_conditional_rows.specs.Listings.{AreOthers}
 use Rattle.gtd_conditional_rows.specs.Types.{HasType, has_type}

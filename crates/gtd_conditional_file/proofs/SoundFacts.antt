@@ -8,8 +8,8 @@ use Rattle.std.specs.List.{list_all, list_any}
 use Rattle.std.specs.Prelude.{◌==◌, ◌&&◌, ◌⊎◌, filter, nat_le, Result, Ok, Err}
 use Rattle.std.specs.Str.Parse.{digits_value}
 use Rattle.gtd_hours_options.specs.Readings.{HowRead}
-use Rattle.gtd_records.specs.Columns.{Fields, number_of}
-use Rattle.gtd_records.specs.facts.NumberFacts.{number_below}
+use Rattle.gtd_rows.specs.Columns.{Fields, number_of}
+use Rattle.gtd_rows.specs.facts.NumberFacts.{number_below}
 use Rattle.gtd_conditional_means.specs.declared.meaning.MeansRow.{MeansRow}
 use Rattle.gtd_conditional_rows.specs.Rows.{AreOrdered, AreRows, Each, is_listed}
 use Rattle.gtd_conditional_rows.specs.Types.{HasType, IsVehicle}

@@ -2,9 +2,9 @@
 use Rattle.std.specs.Prelude.{◌≡◌, ◌↔◌, ⊤, ℕ, List, []}
 use Rattle.std.specs.List.{Contains}
 use Rattle.std.specs.List.Sorted.{IsStrictlyIncreasing}
-use Rattle.gtd_records.specs.Closing.{Serves}
-use Rattle.gtd_records.specs.declared.vehicles.Vehicles.{Vehicles}
-use Rattle.gtd_records.specs.declared.vehicles.Vehicles.TheVariants as vehicles
+use Rattle.gtd_rows.specs.Serving.{Serves}
+use Rattle.gtd_rows.specs.declared.vehicles.Vehicles.{Vehicles}
+use Rattle.gtd_rows.specs.declared.vehicles.Vehicles.TheVariants as vehicles
 use Rattle.gtd_conditional_rows.specs.Listings.{IsListing}
 use Rattle.gtd_conditional_rows.specs.Types.{HasType, IsVehicle}
 use Rattle.gtd_conditional_rows.specs.declared.listing.Listing.{Listing}

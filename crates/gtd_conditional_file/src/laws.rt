@@ -12,7 +12,7 @@ ghost use Rattle.gtd_hours_options.specs.Readings.{HowRead};
 ghost use Rattle.gtd_migrate.specs.Migrated.{migrated};
 ghost use Rattle.gtd_records.specs.Closing.{IsClosed, Restriction};
 ghost use Rattle.gtd_records.specs.File.{IsFile};
-ghost use Rattle.gtd_records.specs.declared.direction.Direction.{Direction};
+ghost use Rattle.gtd_rows.specs.declared.direction.Direction.{Direction};
 ghost use Rattle.gtd_report.specs.Putting.{text_of};
 
 use gtd_conditional_elements::laws::closes_as_the_tags_say;

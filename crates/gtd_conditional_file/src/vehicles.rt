@@ -5,7 +5,7 @@ ghost use Rattle.gtd_conditional_rows.specs.Types.{has_type};
 ghost use Rattle.gtd_conditional_file.specs.Vehicles as spec;
 
 use gtd_conditional_rows::{Listing, Types, listing_of};
-use gtd_records::{Codes, Vehicles};
+use gtd_rows::{Codes, Vehicles};
 use std::alloc::{AllocError, Global};
 
 // Adds a type, if it is in the set.

@@ -2,7 +2,7 @@
 use Rattle.std.proofs.Common.{◌≡◌, ◌∙◌, sym, ap, subst, refl, arith, ℕ, Bool, true, List, [], ◌∷◌, length}
 use Rattle.std.specs.Prelude.{Option, Some, None, Ok}
 use Rattle.csv.specs.Records.{field_at}
-use Rattle.gtd_records.specs.Columns.{Fields}
+use Rattle.gtd_rows.specs.Columns.{Fields}
 use Rattle.gtd_conditional_means.specs.Names.{is_name, is_repeated}
 use Rattle.gtd_conditional_means.specs.Rows.{IsAnswer, IsMeaning, fault_of, is_meant, row_fault}
 use Rattle.gtd_conditional_means.specs.declared.fault.MeansFault.{MeansFault}

@@ -3,9 +3,9 @@ use Rattle.std.proofs.Common.{◌≡◌, ◌∙◌, sym, ap, refl, subst, arith,
 use Rattle.std.proofs.Common.{List, [], ◌∷◌, ◌++◌, length, append_assoc}
 use Rattle.std.specs.Prelude.{Result, Ok, Err, IfOk}
 use Rattle.std.proofs.lemmas.List.{append-nil}
-use Rattle.gtd_records.specs.Columns.{Fields}
-use Rattle.gtd_records.specs.Taking.{AreAllTaken, AreTableTaken, HasHeader}
-use Rattle.gtd_records.specs.declared.rows.RowsEnd.TheVariants.{All, NoHeader, Stopped, TooMany}
+use Rattle.gtd_rows.specs.Columns.{Fields}
+use Rattle.gtd_rows.specs.Taking.{AreAllTaken, AreTableTaken, HasHeader}
+use Rattle.gtd_rows.specs.declared.rows.RowsEnd.TheVariants.{All, NoHeader, Stopped, TooMany}
 use Rattle.gtd_conditional_means.specs.Places.{AreOf}
 use Rattle.gtd_conditional_means.specs.Table.{AreEach, AreTable, faults_of, header, most_table_rows}
 use Rattle.gtd_conditional_means.specs.TakenRows.{Begins, Takes}

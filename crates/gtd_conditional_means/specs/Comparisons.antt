@@ -3,7 +3,7 @@ use Rattle.std.specs.Prelude.{ℕ, Bool, ◌&&◌, ◌||◌, not, false, if◌th
 use Rattle.std.specs.Prelude.{take, drop, codes, Option, Some, None}
 use Rattle.std.specs.Char.{is_ascii_digit, is_ascii_lowercase}
 use Rattle.std.specs.List.{list_all, prefix_len, suffix_len, take_while}
-use Rattle.gtd_records.specs.Columns.{is_word}
+use Rattle.gtd_rows.specs.Columns.{is_word}
 
 -- a lower case letter or `_`; a space; the digit 0
 abbrev pub is_word_byte : ℕ → Bool

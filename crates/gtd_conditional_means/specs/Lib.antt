@@ -7,4 +7,4 @@ pub mod Rows
 pub mod Table
 pub mod TakenRows
 pub mod Reading
-pub use Rattle.gtd_records.specs.Columns
+pub use Rattle.gtd_rows.specs.Columns

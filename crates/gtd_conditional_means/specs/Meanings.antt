@@ -1,8 +1,8 @@
 -- What a name stands for, by the rows of a table.
 use Rattle.std.specs.Prelude.{ℕ, ◌+◌, Bool, ◌&&◌, ◌||◌, false, true, if◌then◌else◌, List, [], ◌∷◌, codes, Option, Some, None}
 use Rattle.std.specs.Option.{option_or}
-use Rattle.gtd_records.specs.Columns.{is_word}
-use Rattle.gtd_records.specs.declared.vehicles.Vehicles.{Vehicles}
+use Rattle.gtd_rows.specs.Columns.{is_word}
+use Rattle.gtd_rows.specs.declared.vehicles.Vehicles.{Vehicles}
 use Rattle.gtd_conditional_means.specs.declared.meaning.Access.{Access}
 use Rattle.gtd_conditional_means.specs.declared.meaning.Access.TheVariants.{Open, Closed}
 use Rattle.gtd_conditional_means.specs.declared.meaning.MeansKind.{MeansKind}

@@ -1,6 +1,6 @@
 -- The fields of a row: kinds, and which names are of a kind.
 use Rattle.std.specs.Prelude.{ℕ, Bool, ◌||◌, false, true, if◌then◌else◌, List, codes, Option, Some, None}
-use Rattle.gtd_records.specs.Columns.{is_word}
+use Rattle.gtd_rows.specs.Columns.{is_word}
 use Rattle.gtd_conditional_means.specs.Comparisons.{is_lower_word, is_some_text, normal_of}
 use Rattle.gtd_conditional_means.specs.Meanings.{known_access, meaning_of}
 use Rattle.gtd_conditional_means.specs.declared.meaning.Access.{Access}

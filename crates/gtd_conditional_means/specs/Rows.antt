@@ -1,9 +1,9 @@
 -- The rows of a table of means.
 use Rattle.std.specs.Prelude.{◌≡◌, ℕ, Bool, ◌&&◌, not, false, true, if◌then◌else◌, List, [], ◌∷◌, Option, Some, None}
 use Rattle.std.specs.Prelude.{Result, Ok, Err}
-use Rattle.gtd_records.specs.Columns.{AreTypesRead, Fields, vehicles_of}
-use Rattle.gtd_records.specs.declared.vehicles.Vehicles.{Vehicles}
-use Rattle.gtd_records.specs.declared.vehicles.Version.TheVariants.{Two}
+use Rattle.gtd_rows.specs.Columns.{AreTypesRead, Fields, vehicles_of}
+use Rattle.gtd_rows.specs.declared.vehicles.Vehicles.{Vehicles}
+use Rattle.gtd_rows.specs.declared.vehicles.Version.TheVariants.{Two}
 use Rattle.gtd_conditional_means.specs.Comparisons.{is_some_text}
 use Rattle.gtd_conditional_means.specs.Names.{access_word, is_name, is_repeated, is_there, kind_of}
 use Rattle.gtd_conditional_means.specs.declared.fault.MeansFault.{MeansFault}

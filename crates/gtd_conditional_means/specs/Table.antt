@@ -3,7 +3,7 @@ use Rattle.std.specs.Prelude.{◌≡◌, ◌≢◌, ◌<◌, ◌≤◌, ◌⊎�
 use Rattle.std.specs.Prelude.{Result, Ok, Err}
 use Rattle.csv.specs.Reading.{default_config, records, strip_bom}
 use Rattle.gtd_core.specs.Limits.{most_file_bytes}
-use Rattle.gtd_records.specs.Columns.{Fields}
+use Rattle.gtd_rows.specs.Columns.{Fields}
 use Rattle.gtd_conditional_means.specs.Rows.{IsRow}
 use Rattle.gtd_conditional_means.specs.declared.fault.MeansFault.{MeansFault}
 use Rattle.gtd_conditional_means.specs.declared.fault.MeansFault.TheVariants as fault

@@ -1,6 +1,6 @@
 -- What reading a table makes of its rows.
 use Rattle.std.specs.Prelude.{◌≡◌, ◌↔◌, ◌<◌, ◌≤◌, ◌++◌, [], ◌∷◌, ℕ, Bool, true, false, Result, IsTrue}
-use Rattle.gtd_records.specs.Columns.{Fields}
+use Rattle.gtd_rows.specs.Columns.{Fields}
 use Rattle.gtd_conditional_means.specs.Places.{AreOf}
 use Rattle.gtd_conditional_means.specs.Rows.{IsRow}
 use Rattle.gtd_conditional_means.specs.Table.{faults_of, header, most_table_rows, read_of}

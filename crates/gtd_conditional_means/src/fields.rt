@@ -17,7 +17,7 @@ use crate::places::Places;
 use crate::rows::{Columns, three_columns};
 use crate::words::{is_lower_word, is_some_text};
 use csv::ByteRecord;
-use gtd_records::{Version, read_vehicles};
+use gtd_rows::{Version, read_vehicles};
 use std::alloc::{AllocError, Global};
 
 // The kind that a word names.

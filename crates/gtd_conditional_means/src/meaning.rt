@@ -3,7 +3,7 @@
 ghost use Rattle.std.specs.Prelude.{◌≡◌};
 ghost use Rattle.gtd_conditional_means.specs.Meanings as spec;
 
-use gtd_records::Vehicles;
+use gtd_rows::Vehicles;
 
 /// Whether a way may be used.
 #[derive(Clone, Copy, Debug, PartialEq, Eq)]

@@ -10,7 +10,7 @@ ghost use Rattle.gtd_conditional_means.specs.declared.meaning.MeansKind.{MeansKi
 use crate::fault::MeansFault;
 use crate::meaning::{Access, Meaning, MeansKind, MeansRow};
 use crate::places::Places;
-use gtd_records::Vehicles;
+use gtd_rows::Vehicles;
 use std::alloc::AllocError;
 
 /// A table of means: its rows, in their order. Of modes, that is from general to specific.

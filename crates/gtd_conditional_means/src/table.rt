@@ -14,7 +14,7 @@ use crate::places::Places;
 use crate::rows::three_columns;
 use csv::ByteRecord;
 use gtd_core::limits::MOST_FILE_BYTES;
-use gtd_records::{RowTaker, RowsEnd, take_rows};
+use gtd_rows::{RowTaker, RowsEnd, take_rows};
 use std::alloc::{AllocError, Global};
 
 /// The most rows of a table.

@@ -1,8 +1,8 @@
 -- What the names of values say of the two directions.
 use Rattle.std.specs.Prelude.{ℕ, if◌then◌else◌, List, codes, Option, Some, None, option_map}
-use Rattle.gtd_records.specs.Columns.{is_word}
-use Rattle.gtd_records.specs.declared.direction.Direction.{Direction}
-use Rattle.gtd_records.specs.declared.direction.Direction.TheVariants.{Positive, Negative}
+use Rattle.gtd_rows.specs.Columns.{is_word}
+use Rattle.gtd_rows.specs.declared.direction.Direction.{Direction}
+use Rattle.gtd_rows.specs.declared.direction.Direction.TheVariants.{Positive, Negative}
 use Rattle.gtd_conditional_means.specs.Meanings.{access_of}
 use Rattle.gtd_conditional_means.specs.declared.meaning.Access.{Access}
 use Rattle.gtd_conditional_means.specs.declared.meaning.Access.TheVariants.{Open, Closed}

@@ -4,7 +4,7 @@ ghost use Rattle.std.specs.Prelude.{◌≡◌};
 ghost use Rattle.gtd_conditional_parts.specs.Names as spec;
 
 use gtd_conditional_means::{Access, Means};
-use gtd_records::Direction;
+use gtd_rows::Direction;
 
 /// What a key speaks of, by which its values have other names.
 #[derive(Clone, Copy, Debug, PartialEq, Eq)]

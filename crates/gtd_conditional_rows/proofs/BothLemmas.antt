@@ -6,10 +6,10 @@ use Rattle.std.specs.Prelude.{filter, IfOk, Result}
 use Rattle.std.proofs.lemmas.Result.{IfOk-weaker}
 use Rattle.gtd_core.specs.Limits.{most_basic_domains}
 use Rattle.gtd_core.specs.declared.domain.Domain.{Domain}
-use Rattle.gtd_records.specs.declared.direction.Closed.{Closed}
-use Rattle.gtd_records.specs.declared.direction.Closed.TheVariants.{One, Both}
-use Rattle.gtd_records.specs.declared.direction.Direction.{Direction}
-use Rattle.gtd_records.specs.declared.direction.Direction.TheVariants.{Positive, Negative}
+use Rattle.gtd_rows.specs.declared.direction.Closed.{Closed}
+use Rattle.gtd_rows.specs.declared.direction.Closed.TheVariants.{One, Both}
+use Rattle.gtd_rows.specs.declared.direction.Direction.{Direction}
+use Rattle.gtd_rows.specs.declared.direction.Direction.TheVariants.{Positive, Negative}
 use Rattle.gtd_conditional_rows.specs.Groups.{with_both}
 use Rattle.gtd_conditional_rows.specs.Rows.{AreGroups, AreOrdered, AreRows, Each, IsGroup, Some'}
 use Rattle.gtd_conditional_rows.specs.Rows.{IsClosedByRow, is_among, is_listed, same_row}

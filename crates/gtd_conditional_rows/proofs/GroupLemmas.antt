@@ -2,7 +2,7 @@
 use Rattle.std.proofs.Common.{◌≡◌, ◌<◌, ◌≤◌, ◌+◌, ◌++◌, ℕ, List, [], ◌∷◌, Some, sym, ◌∙◌}
 use Rattle.std.proofs.Common.{arith, inl, inr}
 use Rattle.std.proofs.lemmas.Bool.{cases_lt, cases_eq}
-use Rattle.gtd_records.specs.declared.direction.Direction.{Direction}
+use Rattle.gtd_rows.specs.declared.direction.Direction.{Direction}
 use Rattle.gtd_conditional_rows.specs.Groups.{GroupedTo, IsGroupOf, IsMarked}
 use Rattle.gtd_conditional_rows.specs.Rows.{AreOrdered, Each, IsGroup, IsLowest, Some'}
 use Rattle.gtd_conditional_rows.specs.Times.{Never, times_of}

@@ -5,11 +5,11 @@ use Rattle.std.proofs.Common.{inl, inr, IsTrue, if◌then◌else◌, get_or}
 use Rattle.std.specs.Prelude.{filter}
 use Rattle.std.proofs.Common.{◌<◌, arith}
 use Rattle.std.proofs.lemmas.Bool.{cases_lt}
-use Rattle.gtd_records.specs.Closing.{ClosesDirection}
-use Rattle.gtd_records.specs.declared.direction.Closed.{Closed}
-use Rattle.gtd_records.specs.declared.direction.Closed.TheVariants.{One, Both}
-use Rattle.gtd_records.specs.declared.direction.Direction.{Direction}
-use Rattle.gtd_records.specs.declared.direction.Direction.TheVariants.{Positive, Negative}
+use Rattle.gtd_rows.specs.Serving.{ClosesDirection}
+use Rattle.gtd_rows.specs.declared.direction.Closed.{Closed}
+use Rattle.gtd_rows.specs.declared.direction.Closed.TheVariants.{One, Both}
+use Rattle.gtd_rows.specs.declared.direction.Direction.{Direction}
+use Rattle.gtd_rows.specs.declared.direction.Direction.TheVariants.{Positive, Negative}
 use Rattle.gtd_conditional_rows.specs.Rows.{AreGroups, AreOrdered, AreRows, AtMostOne, Each, IsClosedByRow, IsGroup, Some'}
 use Rattle.gtd_conditional_rows.specs.Rows.{is_listed, same_row, steps_in}
 use Rattle.gtd_conditional_rows.specs.Steps.{IsClosed}

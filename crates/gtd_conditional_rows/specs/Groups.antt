@@ -1,7 +1,7 @@
 -- Rows on the way: those of the vehicle types up to one.
 use Rattle.std.specs.Prelude.{◌≡◌, ◌<◌, ℕ, List, Option, Some, None, if◌then◌else◌}
-use Rattle.gtd_records.specs.declared.direction.Closed.TheVariants.{One, Both}
-use Rattle.gtd_records.specs.declared.direction.Direction.{Direction}
+use Rattle.gtd_rows.specs.declared.direction.Closed.TheVariants.{One, Both}
+use Rattle.gtd_rows.specs.declared.direction.Direction.{Direction}
 use Rattle.gtd_conditional_rows.specs.Rows.{AreOrdered, Each, IsGroup, Some', is_listed}
 use Rattle.gtd_conditional_rows.specs.Times.{Never, times_of}
 use Rattle.gtd_conditional_rows.specs.Timing.{domain_times}

@@ -13,4 +13,4 @@ pub use Rattle.gtd_core.specs.Limits
 pub use Rattle.gtd_core.specs.Parts
 pub use Rattle.gtd_core.specs.Trees
 pub use Rattle.gtd_eval.specs.Membership
-pub use Rattle.gtd_records.specs.Closing
+pub use Rattle.gtd_rows.specs.Serving

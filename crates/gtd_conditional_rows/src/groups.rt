@@ -1,7 +1,7 @@
 //! The vehicle types of steps, grouped by when they are closed.
 
 ghost use Rattle.std.specs.Prelude.{◌≡◌, ◌+◌, ◌<◌, ◌↔◌, ℕ, IfOk, IfSome, IsTrue, OnOk, if◌then◌else◌};
-ghost use Rattle.gtd_records.specs.declared.direction.Closed.TheVariants.{One, Both};
+ghost use Rattle.gtd_rows.specs.declared.direction.Closed.TheVariants.{One, Both};
 ghost use Rattle.gtd_conditional_rows.specs.Alike.{AreAlike};
 ghost use Rattle.gtd_conditional_rows.specs.Groups.{GroupedTo, IsGroupOf, IsMarked};
 ghost use Rattle.gtd_conditional_rows.specs.Kept.{AreKept};
@@ -17,7 +17,7 @@ use crate::step::Step;
 use crate::times::{Timing, timing_of};
 use crate::types::Types;
 use gtd_core::Domain;
-use gtd_records::{Closed, Direction};
+use gtd_rows::{Closed, Direction};
 use std::alloc::{AllocError, Global};
 
 // Steps in a direction, what is kept of each vehicle type, and the rows of the other direction, if they are known.

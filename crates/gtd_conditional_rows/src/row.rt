@@ -5,7 +5,7 @@ ghost use Rattle.gtd_conditional_rows.specs.Rows.{is_listed, same_domain, same_r
 
 use crate::types::Types;
 use gtd_core::Domain;
-use gtd_records::Closed;
+use gtd_rows::Closed;
 
 /// A row of an element.
 #[derive(Drop)]

@@ -1,8 +1,8 @@
 //! The rows of an element.
 
 ghost use Rattle.std.specs.Prelude.{◌≡◌, ◌↔◌, ◌⊎◌, ◌++◌, ℕ, ℤ, not, filter, map, Err, IfOk, OnOk};
-ghost use Rattle.gtd_records.specs.Closing.{ClosesDirection};
-ghost use Rattle.gtd_records.specs.declared.direction.Direction.{Direction};
+ghost use Rattle.gtd_rows.specs.Serving.{ClosesDirection};
+ghost use Rattle.gtd_rows.specs.declared.direction.Direction.{Direction};
 ghost use Rattle.gtd_conditional_rows.specs.Alike.{AreAlike};
 ghost use Rattle.gtd_conditional_rows.specs.Groups.{with_both};
 ghost use Rattle.gtd_conditional_rows.specs.Rows.{AreRows, AtMostOne, IsClosedByRow, is_listed, steps_in};
@@ -17,7 +17,7 @@ use crate::groups::groups_in;
 use crate::overrides::put_effective_last;
 use crate::row::{Row, is_listed};
 use crate::step::Step;
-use gtd_records::{Closed, Direction};
+use gtd_rows::{Closed, Direction};
 use std::alloc::{AllocError, Global};
 
 // Puts those of other rows that are not among the rows.

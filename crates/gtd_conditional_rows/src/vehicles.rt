@@ -2,11 +2,11 @@
 
 ghost use Rattle.std.specs.Prelude.{◌≡◌, ◌↔◌, ◌⊎◌, ℕ};
 ghost use Rattle.std.specs.List.{Contains};
-ghost use Rattle.gtd_records.specs.Closing.{Serves};
+ghost use Rattle.gtd_rows.specs.Serving.{Serves};
 ghost use Rattle.gtd_conditional_rows.specs.Types.{HasType, IsVehicle};
 
 use crate::types::Types;
-use gtd_records::Vehicles;
+use gtd_rows::Vehicles;
 
 // Adds the type of a code, if it is one of a vehicle type.
 fn add_code(types: &mut Types, code: u8)

@@ -1,6 +1,6 @@
 -- Steps close an element when the sayings do whose steps they are.
 use Rattle.std.proofs.Common.{◌∙◌, ◌↔◌, ℕ, ℤ, List, [], ◌∷◌, sym, inl, inr}
-use Rattle.gtd_records.specs.declared.direction.Direction.{Direction}
+use Rattle.gtd_rows.specs.declared.direction.Direction.{Direction}
 use Rattle.gtd_conditional_means.specs.declared.meaning.MeansRow.{MeansRow}
 use Rattle.gtd_conditional_rows.specs.Steps.{IsClosed, NoneApplies}
 use Rattle.gtd_conditional_rows.specs.Types.{IsVehicle}

@@ -1,8 +1,8 @@
 -- What terms say of types and of seconds, together and apart; and what they cost.
 use Rattle.std.proofs.Common.{◌≡◌, ◌↔◌, ℕ, ℤ, List, [], ◌∷◌, Option, subst}
 use Rattle.gtd_core.specs.declared.domain.Expr.{Expr}
-use Rattle.gtd_records.specs.Closing.{Serves}
-use Rattle.gtd_records.specs.declared.vehicles.Vehicles.{Vehicles}
+use Rattle.gtd_rows.specs.Serving.{Serves}
+use Rattle.gtd_rows.specs.declared.vehicles.Vehicles.{Vehicles}
 use Rattle.gtd_conditional_means.specs.declared.meaning.MeansRow.{MeansRow}
 use Rattle.gtd_conditional_rows.specs.Steps.{HoursHold}
 use Rattle.gtd_conditional_rows.specs.Types.{HasType, IsVehicle}

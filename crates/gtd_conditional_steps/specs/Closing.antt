@@ -1,9 +1,9 @@
 -- When tags close an element.
 use Rattle.std.specs.Prelude.{◌≡◌, ◌⊎◌, ⊤, ℕ, ℤ, List, [], ◌∷◌, Option, Some, None}
 use Rattle.gtd_hours.specs.Opening.{IsOpen}
-use Rattle.gtd_records.specs.Closing.{Serves}
-use Rattle.gtd_records.specs.declared.direction.Direction.{Direction}
-use Rattle.gtd_records.specs.declared.vehicles.Vehicles.{Vehicles}
+use Rattle.gtd_rows.specs.Serving.{Serves}
+use Rattle.gtd_rows.specs.declared.direction.Direction.{Direction}
+use Rattle.gtd_rows.specs.declared.vehicles.Vehicles.{Vehicles}
 use Rattle.gtd_conditional_means.specs.Meanings.{types_of}
 use Rattle.gtd_conditional_means.specs.declared.meaning.Access.TheVariants.{Closed}
 use Rattle.gtd_conditional_means.specs.declared.meaning.MeansKind.TheVariants.{Condition}

@@ -1,9 +1,9 @@
 -- What the tags of an element say, one after another.
 use Rattle.std.specs.Prelude.{ℕ, zero, suc, Bool, ◌&&◌, true, false, if◌then◌else◌, List, [], ◌∷◌, ◌++◌, ◌==◌, length}
 use Rattle.std.specs.Prelude.{Option, Some, None, slice_get}
-use Rattle.gtd_records.specs.declared.direction.Direction.{Direction}
-use Rattle.gtd_records.specs.declared.direction.Direction.TheVariants.{Positive, Negative}
-use Rattle.gtd_records.specs.declared.vehicles.Vehicles.{Vehicles}
+use Rattle.gtd_rows.specs.declared.direction.Direction.{Direction}
+use Rattle.gtd_rows.specs.declared.direction.Direction.TheVariants.{Positive, Negative}
+use Rattle.gtd_rows.specs.declared.vehicles.Vehicles.{Vehicles}
 use Rattle.gtd_conditional_means.specs.declared.meaning.Meaning.{Meaning}
 use Rattle.gtd_conditional_means.specs.declared.meaning.Meaning.TheVariants as meaning
 use Rattle.gtd_conditional_means.specs.declared.meaning.MeansRow.{MeansRow}

@@ -1,6 +1,6 @@
 -- Steps that do what tags say.
 use Rattle.std.specs.Prelude.{◌≡◌, ◌↔◌, ⊤, ℕ, ℤ, List, [], ◌∷◌, ◌++◌}
-use Rattle.gtd_records.specs.declared.direction.Direction.{Direction}
+use Rattle.gtd_rows.specs.declared.direction.Direction.{Direction}
 use Rattle.gtd_conditional_means.specs.declared.meaning.MeansRow.{MeansRow}
 use Rattle.gtd_conditional_parts.specs.Names.{access_in}
 use Rattle.gtd_conditional_rows.specs.Steps.{Applies}

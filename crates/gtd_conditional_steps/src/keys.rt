@@ -6,7 +6,7 @@ ghost use Rattle.gtd_conditional_steps.specs.Sayings as spec;
 use crate::tag::Tag;
 use gtd_conditional_means::{Meaning, Means, MeansRow};
 use gtd_conditional_parts::{Subject, subject_of};
-use gtd_records::{Direction, Vehicles};
+use gtd_rows::{Direction, Vehicles};
 
 /// A key of a mode: of both directions or of one, with conditions or without.
 #[derive(Clone, Copy)]

@@ -17,7 +17,7 @@ use crate::types::types_for;
 use gtd_conditional_means::Means;
 use gtd_conditional_parts::{Part, Subject};
 use gtd_conditional_rows::Step;
-use gtd_records::{Direction, Vehicles};
+use gtd_rows::{Direction, Vehicles};
 use std::alloc::{AllocError, Global};
 
 // For what steps are asked.

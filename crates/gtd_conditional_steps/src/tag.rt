@@ -1,7 +1,7 @@
 //! Tags, and why they have no steps.
 
 use gtd_conditional_parts::Value;
-use gtd_records::Direction;
+use gtd_rows::Direction;
 use std::alloc::AllocError;
 use thiserror::Error;
 

@@ -1,7 +1,7 @@
 //! Tags that say the same of both directions.
 
 ghost use Rattle.std.specs.Prelude.{◌≡◌, ◌↔◌, ℕ, ℤ, List, IsTrue};
-ghost use Rattle.gtd_records.specs.declared.direction.Direction.TheVariants.{Positive, Negative};
+ghost use Rattle.gtd_rows.specs.declared.direction.Direction.TheVariants.{Positive, Negative};
 ghost use Rattle.gtd_conditional_means.specs.declared.meaning.MeansRow.{MeansRow};
 ghost use Rattle.gtd_conditional_parts.specs.declared.said.Subject.{Subject};
 ghost use Rattle.gtd_conditional_rows.specs.declared.step.Step.{Step};

@@ -1,7 +1,7 @@
 //! The vehicle types of which a part speaks.
 
 ghost use Rattle.std.specs.Prelude.{◌↔◌, ℕ};
-ghost use Rattle.gtd_records.specs.Closing.{Serves};
+ghost use Rattle.gtd_rows.specs.Serving.{Serves};
 ghost use Rattle.gtd_conditional_rows.specs.Types.{HasType, IsVehicle};
 ghost use Rattle.gtd_conditional_means.specs.Meanings.{types_of};
 ghost use Rattle.gtd_conditional_means.specs.declared.meaning.MeansKind.TheVariants.{Condition};
@@ -11,7 +11,7 @@ ghost use Rattle.gtd_conditional_steps.specs.Hours.{EachHoldsFor, HoldsFor};
 use gtd_conditional_means::Means;
 use gtd_conditional_rows::{Types, types_of};
 use gtd_conditional_values::Term;
-use gtd_records::Vehicles;
+use gtd_rows::Vehicles;
 
 // The types for which a condition of the table holds.
 fn types_named(means: &Means, name: &[u8]) -> Types

@@ -2,8 +2,8 @@
 use Rattle.std.proofs.Common.{◌≡◌, ◌∙◌, sym, ap, arith, ℕ, Bool, List, [], ◌∷◌, length}
 use Rattle.std.specs.Prelude.{Option, Some}
 use Rattle.csv.specs.Records.{field_at}
-use Rattle.gtd_records.specs.Columns.{Fields}
-use Rattle.gtd_records.specs.declared.direction.Direction.{Direction}
+use Rattle.gtd_rows.specs.Columns.{Fields}
+use Rattle.gtd_rows.specs.declared.direction.Direction.{Direction}
 use Rattle.gtd_conditional_means.specs.declared.meaning.MeansRow.{MeansRow}
 use Rattle.gtd_conditional_tags.specs.Keys.{direction_of, is_at_fault, is_conditional, is_unknown, key_of, key_with}
 use Rattle.gtd_conditional_tags.specs.Keys.{name_of, plain_of}

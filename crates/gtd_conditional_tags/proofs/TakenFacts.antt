@@ -4,9 +4,9 @@ use Rattle.std.proofs.Common.{List, [], ◌∷◌, ◌++◌, map, append_assoc}
 use Rattle.std.specs.Prelude.{Result, Ok, Err, IfOk, Option, Some, None}
 use Rattle.std.specs.List.{list_any}
 use Rattle.std.proofs.lemmas.List.{append-nil}
-use Rattle.gtd_records.specs.Columns.{Fields}
-use Rattle.gtd_records.specs.Taking.{AreAllTaken, AreTableTaken, HasHeader}
-use Rattle.gtd_records.specs.declared.rows.RowsEnd.TheVariants.{All, NoHeader, Stopped, TooMany}
+use Rattle.gtd_rows.specs.Columns.{Fields}
+use Rattle.gtd_rows.specs.Taking.{AreAllTaken, AreTableTaken, HasHeader}
+use Rattle.gtd_rows.specs.declared.rows.RowsEnd.TheVariants.{All, NoHeader, Stopped, TooMany}
 use Rattle.gtd_conditional_means.specs.declared.meaning.MeansRow.{MeansRow}
 use Rattle.gtd_conditional_tags.specs.File.{AreTable, header}
 use Rattle.gtd_conditional_tags.specs.Rows.{IsRead, RowSays, Said, alone, fault_in, faults_of, is_tag_of, row_of, said_by}

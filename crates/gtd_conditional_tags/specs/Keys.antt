@@ -2,9 +2,9 @@
 use Rattle.std.specs.Prelude.{ℕ, ◌+◌, ◌-◌, Bool, ◌&&◌, not, true, if◌then◌else◌, List, [], ◌∷◌, length, take, nat_eq}
 use Rattle.std.specs.Prelude.{codes, Option, Some, None, option_map, ◌==◌}
 use Rattle.std.specs.List.{ends_with}
-use Rattle.gtd_records.specs.Columns.{is_word}
-use Rattle.gtd_records.specs.declared.direction.Direction.{Direction}
-use Rattle.gtd_records.specs.declared.direction.Direction.TheVariants.{Positive, Negative}
+use Rattle.gtd_rows.specs.Columns.{is_word}
+use Rattle.gtd_rows.specs.declared.direction.Direction.{Direction}
+use Rattle.gtd_rows.specs.declared.direction.Direction.TheVariants.{Positive, Negative}
 use Rattle.gtd_conditional_means.specs.Meanings.{is_row_of, meaning_of}
 use Rattle.gtd_conditional_means.specs.Names.{is_there}
 use Rattle.gtd_conditional_means.specs.declared.meaning.MeansKind.TheVariants as kind

@@ -4,4 +4,4 @@ pub mod File
 pub mod Groups
 pub mod FaultTexts
 pub mod TakenRows
-pub use Rattle.gtd_records.specs.Columns
+pub use Rattle.gtd_rows.specs.Columns

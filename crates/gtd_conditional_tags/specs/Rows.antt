@@ -2,7 +2,7 @@
 use Rattle.std.specs.Prelude.{◌≡◌, ℕ, ◌+◌, Bool, ◌&&◌, true, false, if◌then◌else◌, List, [], ◌∷◌, ◌++◌, ◌==◌, Option, Some, None}
 use Rattle.std.specs.Prelude.{Result, Ok, Err}
 use Rattle.std.specs.List.{list_any}
-use Rattle.gtd_records.specs.Columns.{Fields, number_of}
+use Rattle.gtd_rows.specs.Columns.{Fields, number_of}
 use Rattle.gtd_conditional_means.specs.declared.meaning.MeansRow.{MeansRow}
 use Rattle.gtd_conditional_tags.specs.Keys.{is_at_fault, is_same_key, key_of}
 use Rattle.gtd_conditional_tags.specs.declared.fault.TagsFault.{TagsFault}

@@ -4,7 +4,7 @@ use Rattle.std.specs.BTreeSet.{BTreeSet, contains}
 use Rattle.std.specs.List.{list_any}
 use Rattle.std.specs.Ordering.{nat_cmp, ordering_then}
 use Rattle.std.specs.declared.cmp.Ordering.{Ordering}
-use Rattle.gtd_records.specs.Columns.{Fields}
+use Rattle.gtd_rows.specs.Columns.{Fields}
 use Rattle.gtd_conditional_tags.specs.File.{header}
 use Rattle.gtd_conditional_tags.specs.Keys.{form_of}
 use Rattle.gtd_conditional_tags.specs.Rows.{RowSays, Said, fault_in, row_of, said_by, tag_in}

@@ -4,7 +4,7 @@ ghost use Rattle.std.specs.Prelude.{◌≡◌, ◌≤◌};
 ghost use Rattle.gtd_conditional_tags.specs.Keys as spec;
 
 use gtd_conditional_means::Means;
-use gtd_records::Direction;
+use gtd_rows::Direction;
 
 /// A key that says when a way may be used: for which mode, in which directions, and whether under conditions.
 #[derive(Clone, Copy, Debug, PartialEq, Eq)]

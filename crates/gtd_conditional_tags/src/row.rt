@@ -9,7 +9,7 @@ use crate::fault::TagsFault;
 use crate::key::{Key, is_at_fault, key_of, parts_of};
 use csv::ByteRecord;
 use gtd_conditional_means::Means;
-use gtd_records::read_number;
+use gtd_rows::read_number;
 use std::alloc::{AllocError, Global};
 
 /// A tag that says when a way may be used.

@@ -13,7 +13,7 @@ use crate::row::{Tag, TagRow, read_row, tag_of};
 use csv::ByteRecord;
 use gtd_conditional_means::Means;
 use gtd_core::limits::MOST_FILE_BYTES;
-use gtd_records::{RowTaker, RowsEnd, take_rows};
+use gtd_rows::{RowTaker, RowsEnd, take_rows};
 use std::alloc::{AllocError, Global};
 use std::collections::BTreeSet;
 

@@ -1,7 +1,7 @@
 -- What a term names: a comparison or a word, or else it is opening hours.
 use Rattle.std.specs.Prelude.{ℕ, Bool, ◌&&◌, ◌||◌, not, if◌then◌else◌, List, codes, Option, Some, None}
 use Rattle.std.specs.Option.{option_or}
-use Rattle.gtd_records.specs.Columns.{is_word}
+use Rattle.gtd_rows.specs.Columns.{is_word}
 use Rattle.gtd_conditional_means.specs.Comparisons.{is_lower_word, normal_of}
 use Rattle.gtd_conditional_means.specs.Meanings.{types_of}
 use Rattle.gtd_conditional_means.specs.Names.{is_there}

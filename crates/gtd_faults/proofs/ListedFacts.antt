@@ -8,18 +8,18 @@ use Rattle.csv.specs.Reading.{default_config, records, strip_bom}
 use Rattle.csv.specs.Records.{fields_of}
 use Rattle.gtd_core.specs.Limits.{most_file_bytes, most_rows}
 use Rattle.gtd_records.specs.Closing.{Restriction}
-use Rattle.gtd_records.specs.Columns.{Fields}
+use Rattle.gtd_rows.specs.Columns.{Fields}
 use Rattle.gtd_records.specs.ComputedRow.{IsRow}
 use Rattle.gtd_records.specs.Faults.{AreRowFaults, AreTableFaults, row_number, with_fault}
 use Rattle.gtd_records.specs.File.{header}
-use Rattle.gtd_records.specs.Taking.{AreAllTaken, AreTableTaken}
+use Rattle.gtd_rows.specs.Taking.{AreAllTaken, AreTableTaken}
 use Rattle.gtd_records.specs.facts.RowFaults.{faults_listed, number_is}
-use Rattle.gtd_records.specs.facts.RowsRead.{IsListing, one_more}
+use Rattle.gtd_rows.specs.facts.RowsRead.{IsListing, one_more}
 use Rattle.gtd_records.specs.declared.fault.RecordFault.{RecordFault}
 use Rattle.gtd_records.specs.declared.fault.RecordFault.TheVariants as fault
-use Rattle.gtd_records.specs.declared.rows.RowsEnd.{RowsEnd}
-use Rattle.gtd_records.specs.declared.rows.RowsEnd.TheVariants.{NoHeader, All, Stopped, TooMany}
-use Rattle.gtd_records.specs.declared.vehicles.Version.{Version}
+use Rattle.gtd_rows.specs.declared.rows.RowsEnd.{RowsEnd}
+use Rattle.gtd_rows.specs.declared.rows.RowsEnd.TheVariants.{NoHeader, All, Stopped, TooMany}
+use Rattle.gtd_rows.specs.declared.vehicles.Version.{Version}
 use Rattle.gtd_mistakes.specs.declared.told.Told.{Told}
 use Rattle.gtd_warnings.specs.Codes.{AreLoneOfFile, codes_named}
 use Rattle.gtd_warnings.specs.RowsTold.{AreToldOfRows, IsToldOfRow}

@@ -9,8 +9,8 @@ use Rattle.std.proofs.lemmas.List.Elements.{Contains-append_left, Contains-push,
 use Rattle.std.proofs.lemmas.List.Sums.{sum_by-append, sum_by-cons}
 use Rattle.std.specs.Prelude.{string_bytes}
 use Rattle.std.specs.declared.alloc.Global.{Global}
-use Rattle.gtd_records.specs.Columns.{Fields}
-use Rattle.gtd_records.specs.declared.vehicles.Version.{Version}
+use Rattle.gtd_rows.specs.Columns.{Fields}
+use Rattle.gtd_rows.specs.declared.vehicles.Version.{Version}
 use Rattle.gtd_warnings.specs.Codes.{AreLoneBelow, Names, NamesAlone, codes_named, naming, rows_needed}
 use Rattle.gtd_faults.specs.Doubts.{AreLoneLines}
 use Rattle.gtd_faults.specs.Naming.{AreKept, AreLoneBefore, IsKept, kept_lines}

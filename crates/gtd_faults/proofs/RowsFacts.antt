@@ -3,8 +3,8 @@ use Rattle.std.proofs.Common.{◌≡◌, ◌∙◌, ap, refl, sym, ℕ, zero, su
 use Rattle.std.proofs.Common.{drop-drop}
 use Rattle.csv.specs.Records.{field_at}
 use Rattle.csv.specs.declared.reader.Reader.{Reader}
-use Rattle.gtd_records.specs.Columns.{Fields}
-use Rattle.gtd_records.specs.Table.{HasLeft, TakesFirst}
+use Rattle.gtd_rows.specs.Columns.{Fields}
+use Rattle.gtd_rows.specs.Table.{HasLeft, TakesFirst}
 use Rattle.gtd_faults.specs.Places.{field_in}
 use Rattle.gtd_faults.specs.Standing.{HasGiven}
 

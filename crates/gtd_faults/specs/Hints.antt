@@ -3,7 +3,7 @@ use Rattle.std.specs.Prelude.{◌++◌, ◌||◌, ◌==◌, ℕ, Bool, List, [],
 use Rattle.std.specs.Prelude.{Option, Some, None}
 use Rattle.std.specs.Char.{is_ascii_uppercase, to_ascii_lowercase}
 use Rattle.std.specs.List.{count_by, list_any, take_while}
-use Rattle.gtd_records.specs.Columns.{is_word}
+use Rattle.gtd_rows.specs.Columns.{is_word}
 use Rattle.gtd_lines.specs.Lines.{is_within}
 use Rattle.gtd_faults.specs.declared.hint.Hint.{Hint}
 use Rattle.gtd_faults.specs.declared.hint.Hint.TheVariants as hint

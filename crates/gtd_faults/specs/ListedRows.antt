@@ -6,15 +6,15 @@ use Rattle.csv.specs.Reading.{default_config, records, strip_bom}
 use Rattle.gtd_core.specs.Limits.{most_rows}
 use Rattle.gtd_mistakes.specs.declared.rule.Rule.TheVariants as rule
 use Rattle.gtd_mistakes.specs.declared.told.Told.{Told}
-use Rattle.gtd_records.specs.Columns.{Fields}
+use Rattle.gtd_rows.specs.Columns.{Fields}
 use Rattle.gtd_records.specs.Faults.{AreRowFaults}
 use Rattle.gtd_records.specs.File.{header}
 use Rattle.gtd_records.specs.RowTakers.{IsHeader}
 use Rattle.gtd_records.specs.declared.fault.RecordFault.{RecordFault}
 use Rattle.gtd_records.specs.declared.fault.RecordFault.TheVariants as fault
-use Rattle.gtd_records.specs.declared.rows.RowsEnd.{RowsEnd}
-use Rattle.gtd_records.specs.declared.rows.RowsEnd.TheVariants as end
-use Rattle.gtd_records.specs.declared.vehicles.Version.{Version}
+use Rattle.gtd_rows.specs.declared.rows.RowsEnd.{RowsEnd}
+use Rattle.gtd_rows.specs.declared.rows.RowsEnd.TheVariants as end
+use Rattle.gtd_rows.specs.declared.vehicles.Version.{Version}
 use Rattle.gtd_warnings.specs.Codes.{AreLoneOfRows, codes_named, naming, rows_needed}
 use Rattle.gtd_warnings.specs.RowsTold.{AreToldOfRows}
 use Rattle.gtd_warnings.specs.declared.codes.LoneCode.{LoneCode}

@@ -6,7 +6,7 @@ use Rattle.gtd_records.specs.declared.fault.RecordFault.{RecordFault}
 use Rattle.gtd_records.specs.declared.fault.RecordFault.TheVariants as fault
 use Rattle.gtd_faults.specs.Hints.{first_line, hint_line, hint_of}
 use Rattle.csv.specs.Reading.{default_config, records, strip_bom}
-use Rattle.gtd_records.specs.Columns.{Fields}
+use Rattle.gtd_rows.specs.Columns.{Fields}
 use Rattle.gtd_faults.specs.Places.{field_of, row_text}
 use Rattle.gtd_faults.specs.Printable.{printable, shown_byte}
 use Rattle.gtd_faults.specs.declared.snippet.Snippet.{Snippet}

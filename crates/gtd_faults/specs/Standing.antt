@@ -4,8 +4,8 @@ use Rattle.std.specs.Borrow.{Bor}
 use Rattle.csv.specs.Reading.{default_config, records, strip_bom}
 use Rattle.csv.specs.Records.{fields_of}
 use Rattle.csv.specs.declared.reader.Reader.{Reader}
-use Rattle.gtd_records.specs.Columns.{Fields}
-use Rattle.gtd_records.specs.Table.{HasLeft}
+use Rattle.gtd_rows.specs.Columns.{Fields}
+use Rattle.gtd_rows.specs.Table.{HasLeft}
 use Rattle.gtd_lines.specs.Cut.{IsPlace}
 use Rattle.gtd_faults.specs.declared.places.Rows.{Rows}
 use Rattle.gtd_faults.specs.declared.row.Row.{Row}

@@ -5,9 +5,9 @@ ghost use Rattle.std.specs.Prelude.{string_bytes};
 ghost use Rattle.std.specs.List.{All};
 ghost use Rattle.csv.specs.Records.{fields_of};
 ghost use Rattle.gtd_mistakes.specs.declared.told.Told.{Told};
-ghost use Rattle.gtd_records.specs.Columns.{Fields};
+ghost use Rattle.gtd_rows.specs.Columns.{Fields};
 ghost use Rattle.gtd_records.specs.ComputedRow.{IsRow};
-ghost use Rattle.gtd_records.specs.declared.vehicles.Version.{Version};
+ghost use Rattle.gtd_rows.specs.declared.vehicles.Version.{Version};
 ghost use Rattle.gtd_warnings.specs.Codes.{rows_needed};
 ghost use Rattle.gtd_warnings.specs.declared.file.Asked.{Asked};
 ghost use Rattle.gtd_faults.specs.Doubts.{AreDoubtLines, doubt_snippet, doubt_line};
@@ -19,7 +19,8 @@ use crate::printable::Printable;
 use crate::row::Row;
 use crate::snippet::Snippet;
 use gtd_mistakes::{Rule, Told};
-use gtd_records::{Record, RecordFault, Version};
+use gtd_records::{Record, RecordFault};
+use gtd_rows::Version;
 use gtd_warnings::{
     Asked, DoubtText, KnownDomains, PerhapsLine, codes_listed, is_off, told_of_read, types_of_row,
 };

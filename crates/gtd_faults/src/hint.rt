@@ -1,7 +1,7 @@
 //! What is wrong with a first line that is nearly a header.
 
 ghost use Rattle.std.specs.Prelude.{◌≡◌, ◌≤◌, Some, length};
-ghost use Rattle.gtd_records.specs.Columns.{is_word};
+ghost use Rattle.gtd_rows.specs.Columns.{is_word};
 ghost use Rattle.gtd_faults.specs.Hints as spec;
 
 use std::fmt;

@@ -2,7 +2,7 @@
 
 ghost use Rattle.std.specs.Prelude.{◌≡◌, ◌≤◌, ◌+◌, ℕ, true, List, IfOk, IfSome, OnOk};
 ghost use Rattle.csv.specs.Records.{fields_of};
-ghost use Rattle.gtd_records.specs.Columns.{Fields};
+ghost use Rattle.gtd_rows.specs.Columns.{Fields};
 ghost use Rattle.gtd_faults.specs.Snippet.{IsOfField, IsOfRowAt};
 ghost use Rattle.gtd_faults.specs.Places.{IsLine, IsLineAt, field_of};
 ghost use Rattle.gtd_faults.specs.Standing.{HasGiven, IsRowOf, StandsAt};
@@ -11,7 +11,7 @@ use crate::row::Row;
 use crate::snippet::Snippet;
 use csv::{ByteRecord, Reader};
 use gtd_lines::Place;
-use gtd_records::{next_row, table};
+use gtd_rows::{next_row, table};
 use std::alloc::{AllocError, Global};
 
 /// The rows of a file's bytes. It stands at one of them; the header is row 0.

@@ -1,8 +1,8 @@
 -- The numbers that calls answer, and what they mean.
 use Rattle.std.specs.Prelude.{◌≡◌, ◌↔◌, ◌≤◌, ℕ, ℤ, Bool, true, false, pos, ◌*ℤ◌}
 use Rattle.gtd_core.specs.Limits.{day_seconds}
-use Rattle.gtd_records.specs.declared.direction.Direction.{Direction}
-use Rattle.gtd_records.specs.declared.direction.Direction.TheVariants.{Positive, Negative}
+use Rattle.gtd_rows.specs.declared.direction.Direction.{Direction}
+use Rattle.gtd_rows.specs.declared.direction.Direction.TheVariants.{Positive, Negative}
 
 -- no, none, or at fault
 abbrev pub gtd_no : ℕ

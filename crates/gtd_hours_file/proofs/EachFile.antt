@@ -11,12 +11,12 @@ use Rattle.gtd_core.specs.facts.Deciding.{Decided}
 use Rattle.gtd_hours.specs.Cost.{counted, hours_cost}
 use Rattle.gtd_hours_known.specs.declared.known.KnownHours.{KnownHours}
 use Rattle.gtd_hours_text.specs.Room.{HasVectors}
-use Rattle.gtd_records.specs.Columns.{Fields, IsOrdered, closed_of, number_of, vehicles_of}
-use Rattle.gtd_records.specs.declared.direction.Closed.{Closed}
-use Rattle.gtd_records.specs.declared.vehicles.Vehicles.{Vehicles}
-use Rattle.gtd_records.specs.declared.vehicles.Vehicles.TheVariants.{Every, Only, AllBut}
-use Rattle.gtd_records.specs.declared.vehicles.Version.TheVariants as version
-use Rattle.gtd_records.specs.facts.SortedCodes.{ascending}
+use Rattle.gtd_rows.specs.Columns.{Fields, IsOrdered, closed_of, number_of, vehicles_of}
+use Rattle.gtd_rows.specs.declared.direction.Closed.{Closed}
+use Rattle.gtd_rows.specs.declared.vehicles.Vehicles.{Vehicles}
+use Rattle.gtd_rows.specs.declared.vehicles.Vehicles.TheVariants.{Every, Only, AllBut}
+use Rattle.gtd_rows.specs.declared.vehicles.Version.TheVariants as version
+use Rattle.gtd_rows.specs.facts.SortedCodes.{ascending}
 use Rattle.gtd_hours_options.specs.Readings.{HowRead, Reads}
 use Rattle.gtd_hours_file.specs.HoursFile.{AreEach, AreOfFile, AreRows, AreTable, IsHoursColumn, IsHoursFault}
 use Rattle.gtd_hours_file.specs.HoursFile.{IsHoursFile, IsHoursOf, IsRow, faults_of, header, sound_of}

@@ -11,12 +11,12 @@ use Rattle.gtd_hours.specs.Cost.{counted}
 use Rattle.gtd_hours_options.specs.Readings.{AreReadInOneWay, HowRead}
 use Rattle.gtd_hours_options.specs.declared.fault.OptionsFault.{OptionsFault}
 use Rattle.gtd_records.specs.Closing.{HoldsAt, Restriction}
-use Rattle.gtd_records.specs.Columns.{Fields, IsOrdered, IsSortedSet, closed_of, number_of, vehicles_of}
-use Rattle.gtd_records.specs.declared.direction.Closed.{Closed}
-use Rattle.gtd_records.specs.declared.vehicles.Vehicles.{Vehicles}
-use Rattle.gtd_records.specs.declared.vehicles.Vehicles.TheVariants.{Every, Only, AllBut}
-use Rattle.gtd_records.specs.declared.vehicles.Version.TheVariants as version
-use Rattle.gtd_records.specs.facts.Rising.{one_list}
+use Rattle.gtd_rows.specs.Columns.{Fields, IsOrdered, IsSortedSet, closed_of, number_of, vehicles_of}
+use Rattle.gtd_rows.specs.declared.direction.Closed.{Closed}
+use Rattle.gtd_rows.specs.declared.vehicles.Vehicles.{Vehicles}
+use Rattle.gtd_rows.specs.declared.vehicles.Vehicles.TheVariants.{Every, Only, AllBut}
+use Rattle.gtd_rows.specs.declared.vehicles.Version.TheVariants as version
+use Rattle.gtd_rows.specs.facts.Rising.{one_list}
 use Rattle.gtd_hours_file.specs.HoursFile.{AreEach, AreOfFile, AreRows, AreTable, AreTooMany, IsFullRow}
 use Rattle.gtd_hours_file.specs.HoursFile.{IsHoursColumn, IsHoursFault, IsHoursFile, IsHoursOf, IsRow, faults_of, header}
 use Rattle.gtd_hours_file.specs.HoursFile.{sound_of, with_hours}

@@ -6,9 +6,9 @@ use Rattle.std.specs.List.{All}
 use Rattle.std.proofs.lemmas.List.{append-nil}
 use Rattle.csv.specs.Reading.{default_config, records, strip_bom}
 use Rattle.gtd_core.specs.Limits.{most_file_bytes, most_rows}
-use Rattle.gtd_records.specs.Columns.{Fields}
-use Rattle.gtd_records.specs.Taking.{AreAllTaken, AreTableTaken, HasHeader}
-use Rattle.gtd_records.specs.declared.rows.RowsEnd.TheVariants.{All as AllRows, NoHeader, TooMany}
+use Rattle.gtd_rows.specs.Columns.{Fields}
+use Rattle.gtd_rows.specs.Taking.{AreAllTaken, AreTableTaken, HasHeader}
+use Rattle.gtd_rows.specs.declared.rows.RowsEnd.TheVariants.{All as AllRows, NoHeader, TooMany}
 use Rattle.gtd_hours_options.specs.Readings.{HowRead, how_read}
 use Rattle.gtd_hours_file.specs.HoursFile.{AreEach, AreOfFile, AreRows, AreTable, IsRow, faults_of, header}
 use Rattle.gtd_hours_file.specs.HoursFile.{sound_of}

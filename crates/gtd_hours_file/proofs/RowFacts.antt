@@ -10,10 +10,10 @@ use Rattle.gtd_hours_known.specs.declared.known.KnownHours.{KnownHours}
 use Rattle.gtd_hours_options.specs.Manners.{IsReadFaultWithIn}
 use Rattle.gtd_hours_options.specs.declared.fault.OptionsReadFault.{OptionsReadFault}
 use Rattle.gtd_hours_options.specs.declared.fault.OptionsReadFault.TheVariants as reading
-use Rattle.gtd_records.specs.Columns.{AreTypesRead, Fields, IsOrdered, closed_of, number_of, vehicles_of}
-use Rattle.gtd_records.specs.declared.direction.Closed.{Closed}
-use Rattle.gtd_records.specs.declared.vehicles.Vehicles.{Vehicles}
-use Rattle.gtd_records.specs.declared.vehicles.Version.TheVariants as version
+use Rattle.gtd_rows.specs.Columns.{AreTypesRead, Fields, IsOrdered, closed_of, number_of, vehicles_of}
+use Rattle.gtd_rows.specs.declared.direction.Closed.{Closed}
+use Rattle.gtd_rows.specs.declared.vehicles.Vehicles.{Vehicles}
+use Rattle.gtd_rows.specs.declared.vehicles.Version.TheVariants as version
 use Rattle.gtd_hours_options.specs.Readings.{HowRead, Reads}
 use Rattle.gtd_hours_file.specs.HoursFile.{IsFullRow, IsHoursColumn, IsHoursFault, IsHoursOf, IsRow}
 use Rattle.gtd_hours_file.specs.HoursFile.{with_hours}

@@ -9,13 +9,13 @@ use Rattle.gtd_core.specs.Trees.{Tree, Single, Joined}
 use Rattle.gtd_core.specs.declared.domain.Domain.{Domain}
 use Rattle.gtd_migrate.specs.Migrated.{domain_text, migrated}
 use Rattle.gtd_records.specs.Closing.{Restriction}
-use Rattle.gtd_records.specs.Columns.{Fields}
+use Rattle.gtd_rows.specs.Columns.{Fields}
 use Rattle.gtd_records.specs.ComputedFile.{AreRecords, AreSoundRows}
 use Rattle.gtd_records.specs.ComputedRow.{IsDomainColumn}
 use Rattle.gtd_records.specs.File.{IsFile}
 use Rattle.gtd_records.specs.ComputedRow as record_file
-use Rattle.gtd_records.specs.declared.vehicles.Version.{Version}
-use Rattle.gtd_records.specs.declared.vehicles.Version.TheVariants as version
+use Rattle.gtd_rows.specs.declared.vehicles.Version.{Version}
+use Rattle.gtd_rows.specs.declared.vehicles.Version.TheVariants as version
 use Rattle.gtd_records.specs.facts.RowFacts as record_rows
 use Rattle.gtd_report.specs.Putting.{text_of}
 use Rattle.gtd_text.specs.Canonical.{canonical}

@@ -7,10 +7,10 @@ use Rattle.gtd_hours.specs.Cost.{counted, hours_cost}
 use Rattle.gtd_hours_known.specs.declared.known.KnownHours.{KnownHours}
 use Rattle.gtd_hours_options.specs.Readings.{HasFault, HowRead, Reads}
 use Rattle.gtd_hours_options.specs.declared.fault.OptionsFault.{OptionsFault}
-use Rattle.gtd_records.specs.Columns.{Fields, IsOrdered, closed_of, number_of, vehicles_of}
-use Rattle.gtd_records.specs.declared.direction.Closed.{Closed}
-use Rattle.gtd_records.specs.declared.vehicles.Vehicles.{Vehicles}
-use Rattle.gtd_records.specs.declared.vehicles.Version.TheVariants as version
+use Rattle.gtd_rows.specs.Columns.{Fields, IsOrdered, closed_of, number_of, vehicles_of}
+use Rattle.gtd_rows.specs.declared.direction.Closed.{Closed}
+use Rattle.gtd_rows.specs.declared.vehicles.Vehicles.{Vehicles}
+use Rattle.gtd_rows.specs.declared.vehicles.Version.TheVariants as version
 use Rattle.gtd_hours_file.specs.declared.fault.HoursFileFault.{HoursFileFault}
 use Rattle.gtd_hours_file.specs.declared.fault.HoursFileFault.TheVariants as fault
 use Rattle.gtd_hours_file.specs.declared.row.HoursRow.{HoursRow}

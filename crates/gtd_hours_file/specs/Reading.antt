@@ -2,7 +2,7 @@
 use Rattle.std.specs.Prelude.{ℕ, List, Option, Result, Ok, Err, ⊤}
 use Rattle.gtd_hours_options.specs.declared.fault.OptionsReadFault.{OptionsReadFault}
 use Rattle.gtd_hours_options.specs.declared.fault.OptionsReadFault.TheVariants as reading
-use Rattle.gtd_records.specs.Columns.{Fields}
+use Rattle.gtd_rows.specs.Columns.{Fields}
 use Rattle.gtd_hours_options.specs.Readings.{HowRead}
 use Rattle.gtd_hours_file.specs.HoursFile.{IsHoursColumn, IsHoursFault, IsRow}
 use Rattle.gtd_hours_file.specs.declared.fault.HoursFileFault.TheVariants as fault

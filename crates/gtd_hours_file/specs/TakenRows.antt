@@ -1,6 +1,6 @@
 -- What reading a file of hours makes of its rows.
 use Rattle.std.specs.Prelude.{◌≡◌, ◌↔◌, ◌++◌, ℕ, Bool, true, false, Result, IsTrue}
-use Rattle.gtd_records.specs.Columns.{Fields}
+use Rattle.gtd_rows.specs.Columns.{Fields}
 use Rattle.gtd_hours_options.specs.Readings.{how_read}
 use Rattle.gtd_hours_file.specs.HoursFile.{IsRow, faults_of, header, sound_of}
 use Rattle.gtd_hours_file.specs.declared.fault.HoursFileFault.{HoursFileFault}

@@ -5,8 +5,9 @@ use Rattle.gtd_core.specs.Trees.{Tree}
 use Rattle.gtd_core.specs.declared.domain.Domain.{Domain}
 use Rattle.gtd_eval.specs.Membership.{InDomain}
 use Rattle.gtd_hours.specs.Opening.{IsOpen}
-use Rattle.gtd_records.specs.Closing.{ClosesDirection, Restriction, Serves}
-use Rattle.gtd_records.specs.declared.direction.Direction.{Direction}
+use Rattle.gtd_records.specs.Closing.{Restriction}
+use Rattle.gtd_rows.specs.Serving.{ClosesDirection, Serves}
+use Rattle.gtd_rows.specs.declared.direction.Direction.{Direction}
 use Rattle.gtd_hours_file.specs.declared.row.HoursRow.{HoursRow}
 use Rattle.gtd_hours_file.specs.declared.row.RowHours.{RowHours}
 

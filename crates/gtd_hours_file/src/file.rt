@@ -13,7 +13,7 @@ use crate::row::{HoursRow, RowStop, read_row};
 use csv::ByteRecord;
 use gtd_core::limits::MOST_FILE_BYTES;
 use gtd_hours_options::HoursReading;
-use gtd_records::{RowTaker, RowsEnd, four_columns, take_rows};
+use gtd_rows::{RowTaker, RowsEnd, four_columns, take_rows};
 use std::alloc::{AllocError, Global};
 
 /// What the rows of a file say.

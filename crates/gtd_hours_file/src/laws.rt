@@ -8,7 +8,7 @@ ghost use Rattle.gtd_hours_text.specs.Room.{HasVectors};
 ghost use Rattle.gtd_migrate.specs.Migrated.{migrated};
 ghost use Rattle.gtd_records.specs.Closing.{Closes, Restriction};
 ghost use Rattle.gtd_records.specs.File.{IsFile};
-ghost use Rattle.gtd_records.specs.declared.direction.Direction.{Direction};
+ghost use Rattle.gtd_rows.specs.declared.direction.Direction.{Direction};
 ghost use Rattle.gtd_report.specs.Putting.{text_of};
 ghost use Rattle.gtd_hours_options.specs.Readings.{HowRead};
 ghost use Rattle.gtd_hours_file.specs.HoursFile.{IsHoursFile};

@@ -14,9 +14,7 @@ use gtd_hours_domain::cost_of;
 use gtd_hours_holidays::KnownYears;
 use gtd_hours_known::KnownHours;
 use gtd_hours_options::{HoursReading, OptionsReadFault, read_hours_with_in};
-use gtd_records::{
-    Closed, Vehicles, Version, four_columns, read_closed, read_number, read_vehicles,
-};
+use gtd_rows::{Closed, Vehicles, Version, four_columns, read_closed, read_number, read_vehicles};
 use std::alloc::{AllocError, Global};
 
 /// The hours of a row.

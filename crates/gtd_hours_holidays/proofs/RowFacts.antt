@@ -1,7 +1,7 @@
 -- What the fields of a row say.
 use Rattle.std.proofs.Common.{◌≢◌, ◌<◌, refl, arith, ℕ, List, [], ◌∷◌, length, ℤ, pos, ◌+ℤ◌, ◌≤ℤ◌}
 use Rattle.std.specs.Prelude.{Err}
-use Rattle.gtd_records.specs.Columns.{Fields}
+use Rattle.gtd_rows.specs.Columns.{Fields}
 use Rattle.gtd_hours_holidays.specs.Dates.{IsDayText}
 use Rattle.gtd_hours_holidays.specs.Rows.{IsLastDay, IsRow}
 use Rattle.gtd_hours_holidays.specs.declared.fault.HolidaysFault.TheVariants as fault

@@ -5,9 +5,9 @@ use Rattle.std.specs.Prelude.{Result, Ok, Err, IfOk}
 use Rattle.std.proofs.lemmas.List.{append-nil}
 use Rattle.csv.specs.Reading.{default_config, records, strip_bom}
 use Rattle.gtd_core.specs.Limits.{most_file_bytes}
-use Rattle.gtd_records.specs.Columns.{Fields}
-use Rattle.gtd_records.specs.Taking.{AreAllTaken, AreTableTaken, HasHeader}
-use Rattle.gtd_records.specs.declared.rows.RowsEnd.TheVariants.{All, NoHeader, Stopped, TooMany}
+use Rattle.gtd_rows.specs.Columns.{Fields}
+use Rattle.gtd_rows.specs.Taking.{AreAllTaken, AreTableTaken, HasHeader}
+use Rattle.gtd_rows.specs.declared.rows.RowsEnd.TheVariants.{All, NoHeader, Stopped, TooMany}
 use Rattle.gtd_hours_holidays.specs.Table.{AreEach, AreOfBytes, AreRows, AreTable, faults_of, header, most_table_rows, read_of}
 use Rattle.gtd_hours_holidays.specs.TakenRows.{Begins, Takes}
 use Rattle.gtd_hours_holidays.specs.declared.fault.HolidaysFault.{HolidaysFault}

@@ -12,4 +12,4 @@ pub mod Table
 pub mod TakenRows
 pub use Rattle.gtd_calendar.specs.Calendar
 pub use Rattle.gtd_calendar.specs.Stamp
-pub use Rattle.gtd_records.specs.Columns
+pub use Rattle.gtd_rows.specs.Columns

@@ -1,7 +1,7 @@
 -- The rows of a table of holidays.
 use Rattle.std.specs.Prelude.{◌≡◌, ℕ, Bool, true, false, if◌then◌else◌, List, [], ◌∷◌, codes, Option, Some, None}
 use Rattle.std.specs.Prelude.{Result, Ok, Err, ℤ, pos, ◌+ℤ◌, ◌≤ℤ◌}
-use Rattle.gtd_records.specs.Columns.{Fields, is_word}
+use Rattle.gtd_rows.specs.Columns.{Fields, is_word}
 use Rattle.gtd_hours_holidays.specs.Dates.{IsDayText}
 use Rattle.gtd_hours_holidays.specs.declared.fault.HolidaysFault.{HolidaysFault}
 use Rattle.gtd_hours_holidays.specs.declared.fault.HolidaysFault.TheVariants as fault

@@ -3,7 +3,7 @@ use Rattle.std.specs.Prelude.{◌≡◌, ◌≢◌, ◌<◌, ◌≤◌, ◌⊎�
 use Rattle.std.specs.Prelude.{Result, Ok, Err, ℤ, ◌≤ℤ◌}
 use Rattle.csv.specs.Reading.{default_config, records, strip_bom}
 use Rattle.gtd_core.specs.Limits.{most_file_bytes}
-use Rattle.gtd_records.specs.Columns.{Fields}
+use Rattle.gtd_rows.specs.Columns.{Fields}
 use Rattle.gtd_hours_holidays.specs.Rows.{IsRow}
 use Rattle.gtd_hours_holidays.specs.declared.fault.HolidaysFault.{HolidaysFault}
 use Rattle.gtd_hours_holidays.specs.declared.fault.HolidaysFault.TheVariants as fault

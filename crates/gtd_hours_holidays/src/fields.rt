@@ -9,7 +9,7 @@ use crate::date::read_day;
 use crate::fault::HolidaysFault;
 use crate::row::{HolidayKind, HolidayRow};
 use csv::ByteRecord;
-use gtd_records::four_columns;
+use gtd_rows::four_columns;
 
 // Whether a row may have these days as its first and its last.
 fn is_near(first: i64, last: i64) -> bool

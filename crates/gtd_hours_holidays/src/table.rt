@@ -11,7 +11,7 @@ use crate::fields::read_row;
 use crate::row::HolidayRow;
 use csv::ByteRecord;
 use gtd_core::limits::MOST_FILE_BYTES;
-use gtd_records::{RowTaker, RowsEnd, four_columns, take_rows};
+use gtd_rows::{RowTaker, RowsEnd, four_columns, take_rows};
 use std::alloc::{AllocError, Global};
 
 /// The most rows of a table.

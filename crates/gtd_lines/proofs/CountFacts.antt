@@ -8,9 +8,9 @@ use Rattle.csv.specs.Machine.{Read, ends_at_end, field_after, fields_after, is_e
 use Rattle.csv.specs.Reading.{default_config, records, strip_bom}
 use Rattle.csv.specs.declared.parser.State.{State}
 use Rattle.csv.specs.declared.parser.State.TheVariants as st
-use Rattle.gtd_records.proofs.TableFacts.{first_then_rest, leaves, none_left}
-use Rattle.gtd_records.specs.Columns.{Fields}
-use Rattle.gtd_records.specs.Table.{IsBetween, records_after}
+use Rattle.gtd_rows.proofs.TableFacts.{first_then_rest, leaves, none_left}
+use Rattle.gtd_rows.specs.Columns.{Fields}
+use Rattle.gtd_rows.specs.Table.{IsBetween, records_after}
 use Rattle.gtd_lines.proofs.PlaceFacts.{after_cr, between, field_begins, line_end_skipped}
 use Rattle.gtd_lines.specs.Cut.{IsPlace}
 use Rattle.gtd_lines.specs.Lines.{AreLinesOfRows, IsLine, from_record, is_within, left_after, rest_of}

@@ -12,8 +12,8 @@ use Rattle.csv.specs.Reading.{default_config, is_bom, strip_bom}
 use Rattle.csv.specs.declared.parser.Action.TheVariants as act
 use Rattle.csv.specs.declared.parser.State.{State}
 use Rattle.csv.specs.declared.parser.State.TheVariants as st
-use Rattle.gtd_records.proofs.TableFacts.{leaves}
-use Rattle.gtd_records.specs.Table.{IsBetween}
+use Rattle.gtd_rows.proofs.TableFacts.{leaves}
+use Rattle.gtd_rows.specs.Table.{IsBetween}
 use Rattle.gtd_lines.specs.Cut.{IsPlace}
 use Rattle.gtd_lines.specs.Lines.{from_record, is_line_feed, is_within, left_after, rest_of}
 use Rattle.gtd_lines.specs.declared.cut.Place.{Place}

@@ -11,7 +11,7 @@ use Rattle.csv.specs.declared.parser.Config.{Config}
 use Rattle.csv.specs.declared.parser.Action.TheVariants as act
 use Rattle.csv.specs.declared.parser.State.{State}
 use Rattle.csv.specs.declared.parser.State.TheVariants as st
-use Rattle.gtd_records.specs.Columns.{Fields}
+use Rattle.gtd_rows.specs.Columns.{Fields}
 use Rattle.gtd_records.specs.Cut.{is_line_end}
 use Rattle.gtd_mend.specs.Cutting.{IsFed, IsRowRead, state_of}
 use Rattle.gtd_mend.specs.Reading.{IsNextRow, by_byte}

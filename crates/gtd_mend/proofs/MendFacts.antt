@@ -7,11 +7,11 @@ use Rattle.csv.specs.Machine.{Read, next_record}
 use Rattle.csv.specs.declared.parser.State.{State}
 use Rattle.csv.specs.declared.parser.State.TheVariants.{StartRecord}
 use Rattle.gtd_records.specs.Closing.{Restriction}
-use Rattle.gtd_records.specs.Columns.{Fields}
+use Rattle.gtd_rows.specs.Columns.{Fields}
 use Rattle.gtd_records.specs.Faults.{AreFileFaults}
 use Rattle.gtd_records.specs.File.{IsFile, header}
 use Rattle.gtd_records.specs.declared.fault.RecordFault.{RecordFault}
-use Rattle.gtd_records.specs.declared.vehicles.Version.{Version}
+use Rattle.gtd_rows.specs.declared.vehicles.Version.{Version}
 use Rattle.gtd_report.specs.Putting.{text_of}
 use Rattle.gtd_mend.specs.Answer.{Gives}
 use Rattle.gtd_mend.specs.Fields.{mended_row}

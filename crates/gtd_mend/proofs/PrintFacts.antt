@@ -7,7 +7,7 @@ use Rattle.csv.proofs.WriteFacts.{escaped-append, row-step}
 use Rattle.csv.specs.Records.{field_at}
 use Rattle.csv.specs.Writing.{escaped, field_text, is_blank, needs_quotes, next_sep, row_body}
 use Rattle.csv.specs.declared.writer.WriterBuilder.{WriterBuilder}
-use Rattle.gtd_records.specs.Columns.{Fields}
+use Rattle.gtd_rows.specs.Columns.{Fields}
 use Rattle.gtd_mend.specs.Mended.{writer_of}
 
 -- one more byte between quotes

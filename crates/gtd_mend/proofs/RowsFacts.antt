@@ -11,11 +11,11 @@ use Rattle.csv.specs.declared.parser.Action.{Action}
 use Rattle.csv.specs.declared.parser.Action.TheVariants as act
 use Rattle.csv.specs.declared.parser.State.{State}
 use Rattle.csv.specs.declared.parser.State.TheVariants as st
-use Rattle.gtd_records.specs.Columns.{Fields}
+use Rattle.gtd_rows.specs.Columns.{Fields}
 use Rattle.gtd_records.specs.File.{header}
-use Rattle.gtd_records.specs.Table.{IsBetween}
-use Rattle.gtd_records.specs.declared.vehicles.Version.{Version}
-use Rattle.gtd_records.specs.declared.vehicles.Version.TheVariants as version
+use Rattle.gtd_rows.specs.Table.{IsBetween}
+use Rattle.gtd_rows.specs.declared.vehicles.Version.{Version}
+use Rattle.gtd_rows.specs.declared.vehicles.Version.TheVariants as version
 use Rattle.gtd_mend.proofs.MendFacts.{read_apart, same_fields}
 use Rattle.gtd_mend.specs.Fields.{mended_row, mended_table}
 use Rattle.gtd_mend.specs.Mended.{HasHeader, IsRewritten, table_text, writer_of}

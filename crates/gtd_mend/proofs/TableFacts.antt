@@ -11,7 +11,7 @@ use Rattle.csv.specs.Machine.{next_record}
 use Rattle.csv.specs.Writing.{row_text}
 use Rattle.csv.specs.declared.parser.Config.{Config}
 use Rattle.csv.specs.declared.parser.State.TheVariants.{StartRecord}
-use Rattle.gtd_records.specs.Columns.{Fields}
+use Rattle.gtd_rows.specs.Columns.{Fields}
 use Rattle.gtd_report.specs.Putting.{text_of}
 use Rattle.gtd_mend.specs.Fields.{changes_of, content_of, mended_field, mended_from, mended_row, mended_table}
 use Rattle.gtd_mend.specs.Lines.{field_lines, lines_from, row_lines, table_lines}

@@ -5,7 +5,7 @@ use Rattle.csv.specs.declared.parser.Config.{Config}
 use Rattle.csv.specs.declared.parser.State.{State}
 use Rattle.csv.specs.declared.parser.State.TheVariants as state
 use Rattle.csv.specs.declared.parser.Action.TheVariants as action
-use Rattle.gtd_records.specs.Columns.{Fields}
+use Rattle.gtd_rows.specs.Columns.{Fields}
 use Rattle.gtd_mend.specs.Reading.{by_byte}
 use Rattle.gtd_mend.specs.declared.cut.Within.{Within}
 use Rattle.gtd_mend.specs.declared.cut.Within.TheVariants as within

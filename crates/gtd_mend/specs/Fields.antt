@@ -3,7 +3,7 @@ use Rattle.std.specs.Prelude.{◌+◌, ◌-◌, ◌++◌, ◌&&◌, ◌||◌, �
 use Rattle.std.specs.Prelude.{take, drop, nat_le, nat_lt, if◌then◌else◌}
 use Rattle.std.specs.Char.{is_ascii_digit, is_ascii_whitespace, to_ascii_lowercase}
 use Rattle.std.specs.List.{list_all, prefix_len, suffix_len}
-use Rattle.gtd_records.specs.Columns.{Fields, is_word}
+use Rattle.gtd_rows.specs.Columns.{Fields, is_word}
 use Rattle.gtd_mend.specs.declared.change.FieldChange.{FieldChange}
 use Rattle.gtd_mend.specs.declared.change.FieldChange.TheVariants as change
 use Rattle.gtd_mend.specs.declared.content.Content.{Content}

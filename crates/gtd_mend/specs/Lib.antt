@@ -13,7 +13,7 @@ pub use Rattle.gtd_faults.specs.Listing as FaultListing
 pub use Rattle.gtd_faults.specs.Places
 pub use Rattle.gtd_faults.specs.Run as FaultRun
 pub use Rattle.gtd_records.specs.Closing
-pub use Rattle.gtd_records.specs.Columns
+pub use Rattle.gtd_rows.specs.Columns
 pub use Rattle.gtd_records.specs.Cut
 pub use Rattle.gtd_records.specs.File
 pub use Rattle.gtd_report.specs.Putting

@@ -1,7 +1,7 @@
 -- The lines of changes. A line has its end: the LF is its last byte.
 use Rattle.std.specs.Prelude.{◌+◌, ◌++◌, ℕ, Bool, true, false, List, [], ◌∷◌, codes, decimal, map, flat_map}
 use Rattle.gtd_faults.specs.Listing.{line_text}
-use Rattle.gtd_records.specs.Columns.{Fields}
+use Rattle.gtd_rows.specs.Columns.{Fields}
 use Rattle.gtd_mend.specs.Fields.{changes_of, content_of}
 use Rattle.gtd_mend.specs.Reading.{ReadRow}
 use Rattle.gtd_mend.specs.declared.change.FieldChange.{FieldChange}

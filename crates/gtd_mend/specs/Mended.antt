@@ -6,9 +6,9 @@ use Rattle.csv.specs.declared.writer.WriterBuilder.{WriterBuilder}
 use Rattle.csv.specs.declared.parser.State.{State}
 use Rattle.csv.specs.declared.parser.State.TheVariants.{StartRecord}
 use Rattle.gtd_records.specs.Closing.{Restriction}
-use Rattle.gtd_records.specs.Columns.{Fields, is_word}
+use Rattle.gtd_rows.specs.Columns.{Fields, is_word}
 use Rattle.gtd_records.specs.File.{IsFile, header}
-use Rattle.gtd_records.specs.declared.vehicles.Version.{Version}
+use Rattle.gtd_rows.specs.declared.vehicles.Version.{Version}
 use Rattle.gtd_mend.specs.Decoding.{changes_by_mark, text_of_file}
 use Rattle.gtd_mend.specs.Fields.{mended_row, mended_table}
 use Rattle.gtd_mend.specs.Lines.{file_lines, table_lines}

@@ -6,7 +6,7 @@ use Rattle.csv.specs.Reading.{default_config}
 use Rattle.csv.specs.declared.parser.Config.{Config}
 use Rattle.csv.specs.declared.parser.State.{State}
 use Rattle.csv.specs.declared.parser.State.TheVariants.{StartRecord}
-use Rattle.gtd_records.specs.Columns.{Fields}
+use Rattle.gtd_rows.specs.Columns.{Fields}
 use Rattle.gtd_records.specs.Cut.{is_line_end}
 use Rattle.gtd_faults.specs.Places.{is_line_feed}
 use Rattle.gtd_mend.specs.declared.separator.Separator.{Separator}

@@ -3,7 +3,7 @@
 ghost use Rattle.std.specs.Prelude.{◌≡◌, ◌≢◌, IfOk, MatchOption, MatchBool};
 ghost use Rattle.csv.specs.Records.{fields_of};
 ghost use Rattle.gtd_records.specs.File.{header};
-ghost use Rattle.gtd_records.specs.declared.vehicles.Version.{Version};
+ghost use Rattle.gtd_rows.specs.declared.vehicles.Version.{Version};
 ghost use Rattle.gtd_mend.specs.Mended.{HasHeader};
 ghost use Rattle.gtd_mend.specs.declared.separator.Separator as separators;
 
@@ -12,7 +12,7 @@ use crate::listing::Listing;
 use crate::row::mend_row;
 use crate::separator::Separator;
 use csv::ByteRecord;
-use gtd_records::four_columns;
+use gtd_rows::four_columns;
 use std::alloc::{AllocError, Global};
 
 // Whether a row is a header.

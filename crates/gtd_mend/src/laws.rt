@@ -3,9 +3,9 @@
 ghost use Rattle.std.specs.Prelude.{◌≡◌, ◌<◌, [], ◌∷◌, ℕ, false, List, Ok, get_or, map};
 ghost use Rattle.csv.specs.Reading.{default_config, records, strip_bom};
 ghost use Rattle.gtd_records.specs.Closing.{Restriction};
-ghost use Rattle.gtd_records.specs.Columns.{Fields};
+ghost use Rattle.gtd_rows.specs.Columns.{Fields};
 ghost use Rattle.gtd_records.specs.Row.{IsRow};
-ghost use Rattle.gtd_records.specs.declared.vehicles.Version.{Version};
+ghost use Rattle.gtd_rows.specs.declared.vehicles.Version.{Version};
 ghost use Rattle.gtd_mend.specs.Fields.{mended_row, mended_table, without_spaces};
 ghost use Rattle.gtd_mend.specs.Mended.{HasHeader, IsAccepted, IsMended, IsRewritten, IsSame};
 ghost use Rattle.gtd_mend.specs.Reading.{separated_by};

@@ -11,13 +11,13 @@ use Rattle.std.proofs.lemmas.Bool.Decides.{nat_tests}
 use Rattle.std.proofs.lemmas.Fmt.{decimal_is_IsNumeral, decimal_nonempty, length-decimal-le}
 use Rattle.std.proofs.lemmas.List.{append-nil}
 use Rattle.std.proofs.lemmas.List.Splits.{length-slice_split, slice_split_at, slice_split_none}
-use Rattle.gtd_records.specs.facts.NumberFacts.{number_below}
-use Rattle.gtd_records.specs.Columns.{code_of, number_of, IsSortedSet, IsOrdered, and_code, codes_of, is_zero, items_of}
-use Rattle.gtd_records.specs.Columns.{types_listed, named, single, type_of, vehicles_of}
-use Rattle.gtd_records.specs.declared.vehicles.Vehicles.{Vehicles}
-use Rattle.gtd_records.specs.declared.vehicles.Vehicles.TheVariants.{Every, Only, AllBut}
-use Rattle.gtd_records.specs.declared.vehicles.Version.{Version}
-use Rattle.gtd_records.specs.declared.vehicles.Version.TheVariants as version
+use Rattle.gtd_rows.specs.facts.NumberFacts.{number_below}
+use Rattle.gtd_rows.specs.Columns.{code_of, number_of, IsSortedSet, IsOrdered, and_code, codes_of, is_zero, items_of}
+use Rattle.gtd_rows.specs.Columns.{types_listed, named, single, type_of, vehicles_of}
+use Rattle.gtd_rows.specs.declared.vehicles.Vehicles.{Vehicles}
+use Rattle.gtd_rows.specs.declared.vehicles.Vehicles.TheVariants.{Every, Only, AllBut}
+use Rattle.gtd_rows.specs.declared.vehicles.Version.{Version}
+use Rattle.gtd_rows.specs.declared.vehicles.Version.TheVariants as version
 use Rattle.gtd_migrate.specs.Migrated.{codes_text, vehicles_text}
 use Rattle.gtd_migrate.proofs.TextFacts.{IsPlain, decimal_plain, plain_joined}
 

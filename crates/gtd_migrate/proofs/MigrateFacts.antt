@@ -17,10 +17,10 @@ use Rattle.csv.specs.declared.parser.State.TheVariants as st
 use Rattle.gtd_core.specs.Trees.{Tree}
 use Rattle.gtd_core.specs.declared.fault.TextFault.{TextFault}
 use Rattle.gtd_records.specs.facts.FileFacts.{record_count}
-use Rattle.gtd_records.specs.facts.NumberFacts.{number_below}
+use Rattle.gtd_rows.specs.facts.NumberFacts.{number_below}
 use Rattle.gtd_records.specs.facts.OneAnswer.{one_file}
 use Rattle.gtd_records.specs.facts.RowFacts.{full_row}
-use Rattle.gtd_records.specs.Columns.{closed_of, number_of, Fields, IsOrdered, AreTypesRead, vehicles_of}
+use Rattle.gtd_rows.specs.Columns.{closed_of, number_of, Fields, IsOrdered, AreTypesRead, vehicles_of}
 use Rattle.gtd_core.specs.Limits.{most_file_bytes, most_rows}
 use Rattle.gtd_records.specs.facts.FileForms.{computed_table, table_of}
 use Rattle.gtd_records.specs.ComputedFile.{AreRecords, AreSoundRows, IsTable}
@@ -28,14 +28,14 @@ use Rattle.gtd_records.specs.ComputedRow.{IsDomainColumn, IsFullRow, IsRow}
 use Rattle.gtd_records.specs.File.{IsFile, header}
 use Rattle.gtd_records.specs.ComputedRow.{with_domain}
 use Rattle.gtd_records.specs.Closing.{Restriction}
-use Rattle.gtd_records.specs.declared.direction.Closed.{Closed}
-use Rattle.gtd_records.specs.declared.direction.Closed.TheVariants.{One, Both}
-use Rattle.gtd_records.specs.declared.direction.Direction.TheVariants.{Positive, Negative}
+use Rattle.gtd_rows.specs.declared.direction.Closed.{Closed}
+use Rattle.gtd_rows.specs.declared.direction.Closed.TheVariants.{One, Both}
+use Rattle.gtd_rows.specs.declared.direction.Direction.TheVariants.{Positive, Negative}
 use Rattle.gtd_records.specs.declared.fault.RecordFault.{RecordFault}
 use Rattle.gtd_records.specs.declared.fault.RecordFault.TheVariants as fault
-use Rattle.gtd_records.specs.declared.vehicles.Vehicles.{Vehicles}
-use Rattle.gtd_records.specs.declared.vehicles.Version.{Version}
-use Rattle.gtd_records.specs.declared.vehicles.Version.TheVariants as version
+use Rattle.gtd_rows.specs.declared.vehicles.Vehicles.{Vehicles}
+use Rattle.gtd_rows.specs.declared.vehicles.Version.{Version}
+use Rattle.gtd_rows.specs.declared.vehicles.Version.TheVariants as version
 use Rattle.gtd_report.specs.Putting.{text_of}
 use Rattle.gtd_migrate.specs.Migrated.{closed_word, domain_text, header_line, migrated, row_line, vehicles_text}
 use Rattle.gtd_migrate.proofs.CodesFacts.{IsNamed, number_read, ordered_itself, vehicles_named, vehicles_plain, vehicles_read}

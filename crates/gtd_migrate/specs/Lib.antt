@@ -4,6 +4,6 @@ pub use Rattle.gtd_core.specs.Limits
 pub use Rattle.gtd_records.specs.Closing
 pub use Rattle.gtd_records.specs.ComputedFile
 pub use Rattle.gtd_records.specs.File
-pub use Rattle.gtd_records.specs.declared.direction.Direction
+pub use Rattle.gtd_rows.specs.declared.direction.Direction
 pub use Rattle.gtd_report.specs.Putting
 pub use Rattle.gtd_report.specs.Run

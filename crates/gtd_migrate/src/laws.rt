@@ -4,11 +4,11 @@ ghost use Rattle.std.specs.Prelude.{◌≡◌, ◌≤◌, ◌==◌, ◌↔◌, �
 ghost use Rattle.std.specs.List.{list_any};
 ghost use Rattle.gtd_core.specs.Limits.{most_file_bytes};
 ghost use Rattle.gtd_records.specs.Closing.{AreElements, IsClosed, IsOpen, Restriction};
-ghost use Rattle.gtd_records.specs.Columns.{Fields};
+ghost use Rattle.gtd_rows.specs.Columns.{Fields};
 ghost use Rattle.gtd_records.specs.ComputedFile.{AreSoundRows};
 ghost use Rattle.gtd_records.specs.File.{IsFile};
-ghost use Rattle.gtd_records.specs.declared.direction.Direction.{Direction};
-ghost use Rattle.gtd_records.specs.declared.vehicles.Version.{Version};
+ghost use Rattle.gtd_rows.specs.declared.direction.Direction.{Direction};
+ghost use Rattle.gtd_rows.specs.declared.vehicles.Version.{Version};
 ghost use Rattle.gtd_report.specs.Putting.{text_of};
 ghost use Rattle.gtd_migrate.specs.Migrated.{IsPlainRow, migrated, row_line};
 

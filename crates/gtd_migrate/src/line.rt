@@ -6,7 +6,8 @@ ghost use Rattle.gtd_core.specs.Parts.{domain_tree};
 ghost use Rattle.gtd_migrate.specs.Migrated.{closed_word, codes_text, domain_text, row_line, vehicles_text};
 
 use gtd_core::Domain;
-use gtd_records::{Closed, Direction, Record, Vehicles};
+use gtd_records::Record;
+use gtd_rows::{Closed, Direction, Vehicles};
 use gtd_text::print_domain;
 use itoa::Buffer;
 use std::alloc::{AllocError, Global};

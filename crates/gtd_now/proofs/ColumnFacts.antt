@@ -3,8 +3,8 @@ use Rattle.std.proofs.Common.{◌≡◌, refl, ap, arith, ◌<◌, ◌≤◌, �
 use Rattle.std.proofs.Common.{List, length, length-append, Option, Some, None}
 use Rattle.std.specs.Prelude.{ℤ, decimal}
 use Rattle.std.proofs.lemmas.Fmt.{length-decimal-le}
-use Rattle.gtd_records.specs.declared.direction.Direction.{Direction}
-use Rattle.gtd_records.specs.declared.direction.Direction.TheVariants.{Negative, Positive}
+use Rattle.gtd_rows.specs.declared.direction.Direction.{Direction}
+use Rattle.gtd_rows.specs.declared.direction.Direction.TheVariants.{Negative, Positive}
 use Rattle.gtd_report.specs.Putting.{direction_word}
 use Rattle.gtd_states.specs.Lines.{state_word}
 use Rattle.gtd_now.specs.Table.{change_shown, fill, left, right, spaces}

@@ -5,7 +5,7 @@ use Rattle.csv.specs.Reading.{default_config, records, strip_bom}
 use Rattle.gtd_lines.specs.Lines.{AreLinesOfRows, IsLine}
 use Rattle.gtd_records.specs.Closing.{Restriction}
 use Rattle.gtd_records.specs.File.{AreRows, IsFile, IsTable}
-use Rattle.gtd_records.specs.declared.vehicles.Version.{Version}
+use Rattle.gtd_rows.specs.declared.vehicles.Version.{Version}
 use Rattle.gtd_now.specs.Reasons.{row_line}
 
 rows_many : (v : Version) (number : ℕ) (rows : List (List (List ℕ))) (found : List Restriction) → AreRows v number rows (Ok found)

@@ -5,7 +5,7 @@ use Rattle.std.specs.Prelude.{◌↔◌, IfOk, IfSome, IsTrue, Result, Ok, Err, 
 use Rattle.gtd_core.specs.Seconds.{IsHorizonSecond}
 use Rattle.gtd_core.specs.facts.Deciding.{Decided}
 use Rattle.gtd_records.specs.Closing.{Restriction}
-use Rattle.gtd_records.specs.declared.direction.Direction.{Direction}
+use Rattle.gtd_rows.specs.declared.direction.Direction.{Direction}
 use Rattle.gtd_records.specs.facts.OpenDecisions.{open_or_not}
 use Rattle.gtd_lines.specs.facts.OneLine.{one_lines}
 use Rattle.gtd_lines.specs.facts.SomeLines.{some_lines}

@@ -6,7 +6,7 @@ use Rattle.json.specs.Tree.{items_tokens, json_tokens, members_tokens}
 use Rattle.gtd_records.specs.Closing.{Restriction}
 use Rattle.gtd_now.specs.Objects.{reason_items, reason_value, row_items, state_value, why_members}
 use Rattle.gtd_now.specs.ObjectTokens.{state_tokens, subject_tokens}
-use Rattle.gtd_records.specs.declared.direction.Direction.{Direction}
+use Rattle.gtd_rows.specs.declared.direction.Direction.{Direction}
 use Rattle.gtd_states.specs.States.{State}
 use Rattle.gtd_now.specs.Reasons.{row_domain, row_line}
 

@@ -1,6 +1,6 @@
 -- The lines of states, as fields with commas between them.
 use Rattle.std.specs.Prelude.{◌++◌, ℕ, List, codes}
-use Rattle.gtd_records.specs.declared.direction.Direction.{Direction}
+use Rattle.gtd_rows.specs.declared.direction.Direction.{Direction}
 use Rattle.gtd_states.specs.Lines.{change_text, rows_text, state_head, state_word}
 use Rattle.gtd_states.specs.States.{State}
 

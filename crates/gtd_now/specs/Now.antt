@@ -2,7 +2,7 @@
 use Rattle.std.specs.Prelude.{◌≡◌, ◌==◌, ◌++◌, ℕ, Bool, true, false, IfSome, IsTrue, List, [], ◌∷◌, Option}
 use Rattle.std.specs.List.{list_any}
 use Rattle.gtd_records.specs.Closing.{IsOpen, Restriction}
-use Rattle.gtd_records.specs.declared.direction.Direction.{Direction}
+use Rattle.gtd_rows.specs.declared.direction.Direction.{Direction}
 use Rattle.gtd_report.specs.Putting.{IsByElement}
 use Rattle.gtd_lines.specs.Lines.{AreLinesOfRows}
 use Rattle.gtd_states.specs.States.{IsState, State}

@@ -1,6 +1,6 @@
 -- The tokens of an object, in parts.
 use Rattle.std.specs.Prelude.{◌++◌, ℕ, List, [], ◌∷◌, codes, decimal}
-use Rattle.gtd_records.specs.declared.direction.Direction.{Direction}
+use Rattle.gtd_rows.specs.declared.direction.Direction.{Direction}
 use Rattle.gtd_report.specs.Putting.{direction_word}
 use Rattle.gtd_states.specs.Lines.{state_word}
 use Rattle.gtd_states.specs.States.{State}

@@ -3,7 +3,7 @@ use Rattle.std.specs.Prelude.{◌++◌, ◌<◌, ◌^◌, ⊤, ℕ, ℤ, Bool, t
 use Rattle.gtd_calendar.specs.Stamp.{stamp_text}
 use Rattle.gtd_core.specs.Trees.{Tree}
 use Rattle.gtd_records.specs.Closing.{Restriction}
-use Rattle.gtd_records.specs.declared.direction.Direction.{Direction}
+use Rattle.gtd_rows.specs.declared.direction.Direction.{Direction}
 use Rattle.gtd_report.specs.Putting.{direction_word}
 use Rattle.gtd_states.specs.Lines.{state_word}
 use Rattle.gtd_states.specs.States.{State}

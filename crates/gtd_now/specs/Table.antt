@@ -2,7 +2,7 @@
 -- stand between columns. Each width holds every value of its field.
 use Rattle.std.specs.Prelude.{◌++◌, ◌-◌, ℕ, zero, suc, ℤ, List, [], ◌∷◌, Option, Some, None, codes, decimal, length}
 use Rattle.gtd_calendar.specs.Stamp.{stamp_text}
-use Rattle.gtd_records.specs.declared.direction.Direction.{Direction}
+use Rattle.gtd_rows.specs.declared.direction.Direction.{Direction}
 use Rattle.gtd_report.specs.Putting.{direction_word}
 use Rattle.gtd_states.specs.Lines.{rows_text, state_word}
 use Rattle.gtd_states.specs.States.{State}

@@ -5,7 +5,7 @@ ghost use Rattle.gtd_core.specs.Seconds.{IsHorizonSecond};
 ghost use Rattle.gtd_lines.specs.Lines.{AreLinesOfRows, IsLine};
 ghost use Rattle.gtd_records.specs.Closing.{Restriction};
 ghost use Rattle.gtd_records.specs.File.{IsFile};
-ghost use Rattle.gtd_records.specs.declared.direction.Direction.{Direction};
+ghost use Rattle.gtd_rows.specs.declared.direction.Direction.{Direction};
 ghost use Rattle.gtd_report.specs.Putting.{direction_word};
 ghost use Rattle.gtd_states.specs.Lines.{state_word};
 ghost use Rattle.gtd_states.specs.States.{State};

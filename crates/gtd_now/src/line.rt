@@ -8,7 +8,7 @@ ghost use Rattle.gtd_states.specs.States.{state_of};
 
 use crate::entry::Entry;
 use gtd_calendar::write_stamp;
-use gtd_records::Direction;
+use gtd_rows::Direction;
 use gtd_states::ElementState;
 use itoa::Buffer;
 use std::alloc::AllocError;

@@ -17,11 +17,12 @@ use crate::shown::Shown;
 use gtd_core::limits::MOST_FILE_BYTES;
 use gtd_devices::{Input, Output, read_whole};
 use gtd_lines::{lines_of, records_of};
-use gtd_records::{Direction, RecordFault, Records};
+use gtd_records::{RecordFault, Records};
 use gtd_report::{
     DirectedElement, DirectionLines, ElementLines, Printer, RunFault, Stop, put_both,
     put_by_element,
 };
+use gtd_rows::Direction;
 use gtd_states::{KnownChange, changes_of};
 use gtd_warnings::is_some_row_for;
 use std::alloc::{AllocError, Global};

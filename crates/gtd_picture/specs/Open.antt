@@ -1,7 +1,7 @@
 -- The picture of the seconds in which a road element is open.
 use Rattle.std.specs.Prelude.{ℕ, List, codes}
 use Rattle.gtd_records.specs.Closing.{IsOpen, Restriction}
-use Rattle.gtd_records.specs.declared.direction.Direction.{Direction}
+use Rattle.gtd_rows.specs.declared.direction.Direction.{Direction}
 use Rattle.gtd_picture.specs.Crowded.{IsSeen}
 use Rattle.gtd_picture.specs.Picture.{IsPicture}
 

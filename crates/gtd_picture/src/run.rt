@@ -13,8 +13,9 @@ use crate::crowd::is_open_crowded;
 use crate::picture::{Caption, put_picture};
 use gtd_calendar::days_of_year;
 use gtd_devices::{Input, Output};
-use gtd_records::{Direction, RecordFault, Records, open_seconds};
+use gtd_records::{RecordFault, Records, open_seconds};
 use gtd_report::{Printer, Report, RunFault, Stop, Subject, finish, run_report};
+use gtd_rows::Direction;
 use std::alloc::Global;
 
 /// The picture of a year, for an element in a direction and a vehicle type, under a title.

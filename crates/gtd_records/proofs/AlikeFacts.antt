@@ -4,7 +4,7 @@ use Rattle.std.specs.Prelude.{ℤ, slice_index_or}
 use Rattle.gtd_records.specs.Alike.{AreCovered}
 use Rattle.gtd_records.specs.Closing.{Concerns, IsClosed, Restriction}
 use Rattle.gtd_records.specs.Index.{AreElementPlaces, IsRepeated}
-use Rattle.gtd_records.specs.declared.direction.Direction.{Direction}
+use Rattle.gtd_rows.specs.declared.direction.Direction.{Direction}
 use Rattle.gtd_records.specs.facts.IndexFacts.{any_default, by_le, one_record}
 use Rattle.gtd_records.specs.RowPlaces.{place_of}
 use Rattle.gtd_places.specs.declared.place.RowPlace.{RowPlace}

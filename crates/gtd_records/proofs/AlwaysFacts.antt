@@ -14,7 +14,7 @@ use Rattle.gtd_eval.specs.facts.PeriodFacts.{from-longer, some-period}
 use Rattle.gtd_records.specs.Closing.{Closes, Concerns, HoldsAt, IsClosed, IsOpen, Restriction}
 use Rattle.gtd_records.specs.ClosingCursors.{AddsRepeating, ClosesRepeating, IsClosedRepeating}
 use Rattle.gtd_records.specs.declared.closing_cursors.ClosingCursors.{ClosingCursors}
-use Rattle.gtd_records.specs.declared.direction.Direction.{Direction}
+use Rattle.gtd_rows.specs.declared.direction.Direction.{Direction}
 
 -- a set that has each second of a period has each later one
 within-many : (set : ℤ → Type 0) (w from : ℤ) → pos 0 <ℤ w → ((t : ℤ) → set t → set (t +ℤ w))

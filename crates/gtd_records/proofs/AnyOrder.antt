@@ -10,12 +10,12 @@ use Rattle.gtd_text.specs.facts.OneMeaning.{one_meaning}
 use Rattle.gtd_text.specs.facts.ReadingLaws.{one_fault}
 use Rattle.gtd_records.proofs.CutFacts.{row_anywhere, sound_of}
 use Rattle.gtd_records.specs.Closing.{Restriction}
-use Rattle.gtd_records.specs.Columns.{Fields}
+use Rattle.gtd_rows.specs.Columns.{Fields}
 use Rattle.gtd_records.specs.ComputedFile.{AreRecords, IsTable}
 use Rattle.gtd_records.specs.ComputedRow.{IsRow}
 use Rattle.gtd_records.specs.File.{header}
 use Rattle.gtd_records.specs.declared.fault.RecordFault.{RecordFault}
-use Rattle.gtd_records.specs.declared.vehicles.Version.{Version}
+use Rattle.gtd_rows.specs.declared.vehicles.Version.{Version}
 use Rattle.gtd_records.specs.facts.OneAnswer.{one_row}
 
 ok_is : (a b : Restriction) → ◌≡◌ {A = Result Restriction RecordFault} (Ok a) (Ok b) → a ≡ b

@@ -19,7 +19,7 @@ use Rattle.gtd_records.specs.Closing.{Closes, Concerns, HoldsAt, IsOpen, Restric
 use Rattle.gtd_records.specs.Index.{AllSeen}
 use Rattle.gtd_records.specs.declared.closed_when.ClosedWhen.{ClosedWhen}
 use Rattle.gtd_records.specs.declared.closed_when.ClosedWhen.TheVariants.{Never, Always, ByDomains}
-use Rattle.gtd_records.specs.declared.direction.Direction.{Direction}
+use Rattle.gtd_rows.specs.declared.direction.Direction.{Direction}
 use Rattle.gtd_places.specs.declared.place.RowPlace.{RowPlace}
 
 -- a restriction whose domain is found has one

@@ -6,9 +6,9 @@ use Rattle.std.proofs.lemmas.List.Elements.{Contains-append_left, Contains-push,
 use Rattle.gtd_records.specs.facts.IndexFacts.{any_default, by_le, one_record}
 use Rattle.gtd_records.specs.Closing.{Closes, Restriction}
 use Rattle.gtd_records.specs.ClosingRows.{AreClosingRows, IsClosingRow}
-use Rattle.gtd_records.specs.Columns.{IsSortedSet}
+use Rattle.gtd_rows.specs.Columns.{IsSortedSet}
 use Rattle.gtd_records.specs.RowPlaces.{place_of}
-use Rattle.gtd_records.specs.declared.direction.Direction.{Direction}
+use Rattle.gtd_rows.specs.declared.direction.Direction.{Direction}
 use Rattle.gtd_records.specs.Index.{AllSeen}
 use Rattle.gtd_places.specs.declared.place.RowPlace.{RowPlace}
 

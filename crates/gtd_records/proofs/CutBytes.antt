@@ -9,10 +9,10 @@ use Rattle.csv.specs.declared.parser.Action.{Action}
 use Rattle.csv.specs.declared.parser.Action.TheVariants as act
 use Rattle.csv.specs.declared.parser.State.{State}
 use Rattle.csv.specs.declared.parser.State.TheVariants as st
-use Rattle.gtd_records.proofs.TableFacts.{first_then_rest, leaves, none_left, takes}
+use Rattle.gtd_rows.proofs.TableFacts.{first_then_rest, leaves, none_left, takes}
 use Rattle.gtd_records.specs.Cut.{state_after}
-use Rattle.gtd_records.specs.Table.{IsBetween, records_after}
-use Rattle.gtd_records.specs.Columns.{Fields}
+use Rattle.gtd_rows.specs.Table.{IsBetween, records_after}
+use Rattle.gtd_rows.specs.Columns.{Fields}
 
 abbrev pub IsComment : State → Type 0
 IsComment s = s ≡ st.InComment

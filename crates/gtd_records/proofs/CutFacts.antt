@@ -5,17 +5,17 @@ use Rattle.std.specs.Prelude.{MatchOption, Result, Ok, Err}
 use Rattle.gtd_core.specs.Trees.{Tree}
 use Rattle.gtd_core.specs.declared.fault.TextFault.{TextFault}
 use Rattle.gtd_records.specs.facts.OneAnswer.{one_version}
-use Rattle.gtd_records.specs.Columns.{closed_of, number_of, Fields, IsOrdered, vehicles_of}
+use Rattle.gtd_rows.specs.Columns.{closed_of, number_of, Fields, IsOrdered, vehicles_of}
 use Rattle.gtd_core.specs.Limits.{most_rows}
 use Rattle.gtd_records.specs.ComputedFile.{AreRecords, AreSoundRows, IsTable}
 use Rattle.gtd_records.specs.ComputedRow.{IsDomainColumn, IsRow, with_domain}
 use Rattle.gtd_records.specs.File.{header}
 use Rattle.gtd_records.specs.Closing.{Restriction}
-use Rattle.gtd_records.specs.declared.direction.Closed.{Closed}
+use Rattle.gtd_rows.specs.declared.direction.Closed.{Closed}
 use Rattle.gtd_records.specs.declared.fault.RecordFault.{RecordFault}
 use Rattle.gtd_records.specs.declared.fault.RecordFault.TheVariants as fault
-use Rattle.gtd_records.specs.declared.vehicles.Vehicles.{Vehicles}
-use Rattle.gtd_records.specs.declared.vehicles.Version.{Version}
+use Rattle.gtd_rows.specs.declared.vehicles.Vehicles.{Vehicles}
+use Rattle.gtd_rows.specs.declared.vehicles.Version.{Version}
 
 -- what a row stands for does not depend on its number
 read_anywhere : (n m x : ℕ) (c : Closed) (types : Vehicles) (read : Result (Option Tree) TextFault) (r : Restriction)

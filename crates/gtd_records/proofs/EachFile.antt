@@ -13,8 +13,8 @@ use Rattle.gtd_records.specs.facts.RowNames.{AllBut, Closed, Every, Fields, IsDo
 use Rattle.gtd_records.specs.facts.RowNames.{RecordFault, Restriction}
 use Rattle.gtd_records.specs.facts.RowNames.{TextFault, Tree, Vehicles, Version, closed_of, number_of, vehicles_of, with_domain}
 use Rattle.gtd_records.specs.declared.fault.RecordFault.TheVariants as fault
-use Rattle.gtd_records.specs.declared.vehicles.Version.TheVariants as version
-use Rattle.gtd_records.specs.facts.SortedCodes.{ascending}
+use Rattle.gtd_rows.specs.declared.vehicles.Version.TheVariants as version
+use Rattle.gtd_rows.specs.facts.SortedCodes.{ascending}
 
 types_of : (named : Vehicles) → (types : Vehicles) × IsOrdered named types
 types_of Every = (Every, refl)

@@ -6,7 +6,7 @@ use Rattle.gtd_records.specs.Closing.{Closes, HoldsAt, Restriction}
 use Rattle.gtd_records.specs.Index.{AllSeen, AreElementPlaces, IsRepeated}
 pub use Rattle.gtd_places.specs.facts.PlaceFacts.{nowhere}
 use Rattle.gtd_records.specs.RowPlaces.{place_of}
-use Rattle.gtd_records.specs.declared.direction.Direction.{Direction}
+use Rattle.gtd_rows.specs.declared.direction.Direction.{Direction}
 use Rattle.gtd_places.specs.declared.place.RowPlace.{RowPlace}
 use Rattle.gtd_records.specs.facts.IndexFacts.{any_default, by_le, one_record}
 

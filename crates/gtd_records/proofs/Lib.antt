@@ -1,7 +1,4 @@
 -- The lemmas of the crate: rows and tables, what is read of them, records by element, faults, and files cut in parts.
-pub mod ListFacts
-pub mod TableFacts
-pub mod TakingFacts
 pub mod ReadFacts
 pub mod OpenFacts
 pub mod CutFacts
@@ -18,7 +15,6 @@ pub mod DomainTexts
 pub mod EachFile
 pub mod StayFacts
 pub mod FoundPlaces
-pub mod SortedSets
 pub mod LineEnds
 pub mod DomainLines
 pub mod PlainRows

@@ -12,10 +12,10 @@ use Rattle.csv.specs.declared.parser.Action.TheVariants as act
 use Rattle.csv.specs.declared.parser.State.{State}
 use Rattle.csv.specs.declared.parser.State.TheVariants as st
 use Rattle.gtd_records.proofs.CutBytes.{IsComment, no_comment, stays}
-use Rattle.gtd_records.proofs.TableFacts.{chosen, ends, first_then_rest, none_left}
-use Rattle.gtd_records.specs.Columns.{Fields}
+use Rattle.gtd_rows.proofs.TableFacts.{chosen, ends, first_then_rest, none_left}
+use Rattle.gtd_rows.specs.Columns.{Fields}
 use Rattle.gtd_records.specs.Cut.{is_line_end, state_after}
-use Rattle.gtd_records.specs.Table.{IsBetween, records_after}
+use Rattle.gtd_rows.specs.Table.{IsBetween, records_after}
 
 -- ---- tests
 

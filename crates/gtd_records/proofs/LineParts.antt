@@ -14,13 +14,13 @@ use Rattle.gtd_records.proofs.CutFile.{file_under, table_of, table_under}
 use Rattle.gtd_records.proofs.LineEnds.{has_ends, line_end_between, neither, some_ends}
 use Rattle.gtd_records.proofs.PlainRows.{table_clear}
 use Rattle.gtd_records.specs.Closing.{Restriction}
-use Rattle.gtd_records.specs.Columns.{Fields}
+use Rattle.gtd_rows.specs.Columns.{Fields}
 use Rattle.gtd_records.specs.Cut.{IsFront, counted_on, is_line_end, state_after}
 use Rattle.gtd_records.specs.ComputedFile.{AreRecords, IsFile, IsTable}
 use Rattle.gtd_records.specs.File.{header}
-use Rattle.gtd_records.specs.Table.{IsBetween}
+use Rattle.gtd_rows.specs.Table.{IsBetween}
 use Rattle.gtd_records.specs.declared.fault.RecordFault.{RecordFault}
-use Rattle.gtd_records.specs.declared.vehicles.Version.{Version}
+use Rattle.gtd_rows.specs.declared.vehicles.Version.{Version}
 
 -- ---- a line end is no byte of a mark
 

@@ -6,14 +6,14 @@ use Rattle.std.specs.List.{Contains}
 use Rattle.gtd_text.specs.facts.OneMeaning.{one_meaning}
 use Rattle.gtd_text.specs.facts.ReadingLaws.{one_fault}
 use Rattle.gtd_records.specs.facts.OneAnswer.{one_row}
-use Rattle.gtd_records.specs.facts.Rising.{In, from_in, to_in}
+use Rattle.gtd_rows.specs.facts.Rising.{In, from_in, to_in}
 use Rattle.gtd_records.specs.facts.RowFaults.{number_is}
-use Rattle.gtd_records.specs.Columns.{Fields}
+use Rattle.gtd_rows.specs.Columns.{Fields}
 use Rattle.gtd_records.specs.Faults.{AreRowFaults, IsFaultyRow, row_number, with_fault}
 use Rattle.gtd_records.specs.Closing.{Restriction}
 use Rattle.gtd_records.specs.ComputedRow.{IsRow}
 use Rattle.gtd_records.specs.declared.fault.RecordFault.{RecordFault}
-use Rattle.gtd_records.specs.declared.vehicles.Version.{Version}
+use Rattle.gtd_rows.specs.declared.vehicles.Version.{Version}
 
 -- the row with this number stands for no restriction, where the first has number k
 record Faulty (v : Version) (k : ℕ) (rows : List Fields) (n : ℕ) : Type 0 where

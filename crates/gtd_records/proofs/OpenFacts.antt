@@ -16,7 +16,7 @@ use Rattle.gtd_records.proofs.FoundPlaces.{NoneSoFar, none_more, none_of_seen, r
 use Rattle.gtd_records.specs.Index.{AllSeen, AreClosing, AreElementPlaces, IsRepeated}
 use Rattle.gtd_records.specs.Closing.{Closes, Concerns, HoldsAt, IsClosed, IsOpen, Restriction}
 use Rattle.gtd_places.specs.declared.place.RowPlace.{RowPlace}
-use Rattle.gtd_records.specs.declared.direction.Direction.{Direction}
+use Rattle.gtd_rows.specs.declared.direction.Direction.{Direction}
 
 -- one more cursor
 pub pushed : {L : Type 0} {g : Ghosts L} (cs : List (SweepTree L g)) (c : SweepTree L g) (t : ℤ)

@@ -13,7 +13,7 @@ use Rattle.gtd_eval.specs.Cursors.{SomeHolds, cursor_list}
 use Rattle.gtd_eval.specs.declared.leaf.Leaf.{Ghosts}
 use Rattle.gtd_eval.specs.declared.tree.SweepTree.{SweepTree}
 use Rattle.gtd_records.specs.Closing.{Concerns, HoldsAt, IsClosed, IsOpen, Restriction}
-use Rattle.gtd_records.specs.declared.direction.Direction.{Direction}
+use Rattle.gtd_rows.specs.declared.direction.Direction.{Direction}
 use Rattle.gtd_records.specs.ClosingCursors.{RepeatIn}
 use Rattle.gtd_records.specs.Index.{AllSeen}
 use Rattle.gtd_records.proofs.OpenFacts.{pushed}

@@ -13,22 +13,22 @@ use Rattle.gtd_core.specs.declared.fault.TextFault.{TextFault}
 use Rattle.gtd_records.proofs.DomainLines.{domain_line}
 use Rattle.gtd_records.proofs.LineEnds.{has_end, has_ends, neither, some_ends}
 use Rattle.gtd_records.specs.Closing.{Restriction}
-use Rattle.gtd_records.specs.Columns.{Fields, IsOrdered, and_code, closed_of, code_of, codes_of, direction_of, is_word, is_zero}
-use Rattle.gtd_records.specs.Columns.{items_of, named, number_of, type_of, types_listed, vehicles_of}
+use Rattle.gtd_rows.specs.Columns.{Fields, IsOrdered, and_code, closed_of, code_of, codes_of, direction_of, is_word, is_zero}
+use Rattle.gtd_rows.specs.Columns.{items_of, named, number_of, type_of, types_listed, vehicles_of}
 use Rattle.gtd_records.specs.Cut.{is_line_end}
 use Rattle.gtd_records.specs.ComputedFile.{AreRecords, IsTable}
 use Rattle.gtd_records.specs.ComputedRow.{IsDomainColumn, IsRow, with_domain}
 use Rattle.gtd_records.specs.File.{header}
-use Rattle.gtd_records.specs.declared.direction.Closed.{Closed}
-use Rattle.gtd_records.specs.declared.direction.Closed.TheVariants.{One}
-use Rattle.gtd_records.specs.declared.direction.Direction.{Direction}
-use Rattle.gtd_records.specs.declared.direction.Direction.TheVariants.{Negative}
+use Rattle.gtd_rows.specs.declared.direction.Closed.{Closed}
+use Rattle.gtd_rows.specs.declared.direction.Closed.TheVariants.{One}
+use Rattle.gtd_rows.specs.declared.direction.Direction.{Direction}
+use Rattle.gtd_rows.specs.declared.direction.Direction.TheVariants.{Negative}
 use Rattle.gtd_records.specs.declared.fault.RecordFault.{RecordFault}
 use Rattle.gtd_records.specs.declared.fault.RecordFault.TheVariants as fault
-use Rattle.gtd_records.specs.declared.vehicles.Vehicles.{Vehicles}
-use Rattle.gtd_records.specs.declared.vehicles.Vehicles.TheVariants.{Only, AllBut}
-use Rattle.gtd_records.specs.declared.vehicles.Version.{Version}
-use Rattle.gtd_records.specs.declared.vehicles.Version.TheVariants as version
+use Rattle.gtd_rows.specs.declared.vehicles.Vehicles.{Vehicles}
+use Rattle.gtd_rows.specs.declared.vehicles.Vehicles.TheVariants.{Only, AllBut}
+use Rattle.gtd_rows.specs.declared.vehicles.Version.{Version}
+use Rattle.gtd_rows.specs.declared.vehicles.Version.TheVariants as version
 
 -- ---- what a test that was passed says
 

@@ -12,7 +12,7 @@ use Rattle.gtd_records.specs.Index.{AllSeen, AreElementPlaces, IsRepeated}
 use Rattle.gtd_records.proofs.FoundPlaces.{repeated_closes}
 use Rattle.gtd_records.specs.Closing.{Closes, Concerns, HoldsAt, IsClosed, Restriction}
 use Rattle.gtd_records.specs.RowPlaces.{place_of}
-use Rattle.gtd_records.specs.declared.direction.Direction.{Direction}
+use Rattle.gtd_rows.specs.declared.direction.Direction.{Direction}
 use Rattle.gtd_places.specs.declared.place.RowPlace.{RowPlace}
 
 -- one set stays as it is as long as an equal one

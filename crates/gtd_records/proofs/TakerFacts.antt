@@ -2,21 +2,21 @@
 use Rattle.std.proofs.Common.{◌≡◌, ◌∙◌, ◌+◌, inl, inr, ap, refl, subst, arith, ℕ, true, false, List, [], ◌∷◌, ◌++◌, length}
 use Rattle.std.specs.Prelude.{Ok, Err}
 use Rattle.gtd_records.specs.Closing.{Restriction}
-use Rattle.gtd_records.specs.Columns.{Fields}
+use Rattle.gtd_rows.specs.Columns.{Fields}
 use Rattle.gtd_records.specs.ComputedFile.{AreRecords, IsTable}
 use Rattle.gtd_records.specs.ComputedRow.{IsRow}
 use Rattle.gtd_records.specs.Faults.{AreRowFaults, AreTableFaults, with_fault}
 use Rattle.gtd_records.specs.File.{header}
 use Rattle.gtd_records.specs.RowTakers.{BeginsFaults, BeginsReading, IsHeader, ListsFault, Reads}
-use Rattle.gtd_records.specs.Taking.{AreAllTaken, AreTableTaken, HasHeader}
+use Rattle.gtd_rows.specs.Taking.{AreAllTaken, AreTableTaken, HasHeader}
 use Rattle.gtd_records.specs.facts.RowFaults.{faults_listed}
-use Rattle.gtd_records.specs.facts.RowsRead.{IsListing}
-use Rattle.gtd_records.specs.facts.TakenRows.{taken_from_none}
+use Rattle.gtd_rows.specs.facts.RowsRead.{IsListing}
+use Rattle.gtd_rows.specs.facts.TakenRows.{taken_from_none}
 use Rattle.gtd_records.specs.declared.fault.RecordFault.TheVariants as fault
 use Rattle.gtd_records.specs.declared.faults.FaultList.{FaultList}
 use Rattle.gtd_records.specs.declared.file.Reading.{Reading}
-use Rattle.gtd_records.specs.declared.rows.RowsEnd.TheVariants.{NoHeader, All, Stopped, TooMany}
-use Rattle.gtd_records.specs.declared.vehicles.Version.{Version}
+use Rattle.gtd_rows.specs.declared.rows.RowsEnd.TheVariants.{NoHeader, All, Stopped, TooMany}
+use Rattle.gtd_rows.specs.declared.vehicles.Version.{Version}
 
 -- a first record that is no header
 no_header : (text : List Fields) (first : Fields) (rows : List Fields) (v : Version) → text ≡ first ∷ rows

@@ -2,7 +2,7 @@
 use Rattle.std.specs.Prelude.{◌≡◌, ◌<◌, ℕ, List, length, slice_index_or}
 use Rattle.gtd_records.specs.Closing.{Concerns, Restriction}
 use Rattle.gtd_records.specs.Index.{IsRepeated}
-use Rattle.gtd_records.specs.declared.direction.Direction.{Direction}
+use Rattle.gtd_rows.specs.declared.direction.Direction.{Direction}
 use Rattle.gtd_places.specs.declared.place.RowPlace.{RowPlace}
 
 module _ (rows : List Restriction) (part others : List RowPlace) (one other : Direction) (vehicle : ℕ) where

@@ -3,7 +3,7 @@ use Rattle.std.specs.Prelude.{◌≡◌, ℕ, List, Any, None}
 use Rattle.gtd_records.specs.Closing.{Concerns, Restriction}
 use Rattle.gtd_records.specs.declared.closed_when.ClosedWhen.{ClosedWhen}
 use Rattle.gtd_records.specs.declared.closed_when.ClosedWhen.TheVariants.{Never, Always, ByDomains}
-use Rattle.gtd_records.specs.declared.direction.Direction.{Direction}
+use Rattle.gtd_rows.specs.declared.direction.Direction.{Direction}
 
 module _ (element : ℕ) (direction : Direction) (vehicle : ℕ) where
   -- the restriction closes the element in the direction for the vehicle type, whatever the second

@@ -1,14 +1,14 @@
 -- What a restriction is, and when it closes a road element.
 use Rattle.std.specs.Prelude.{ℕ, Option, ◌≡◌, ℤ, List, Any, Some, None, ⊤, ◌↔◌}
 use Rattle.gtd_core.specs.Trees.{Tree}
-use Rattle.gtd_records.specs.declared.direction.Closed.{Closed}
-use Rattle.gtd_records.specs.declared.vehicles.Vehicles.{Vehicles}
+use Rattle.gtd_rows.specs.declared.direction.Closed.{Closed}
+use Rattle.gtd_rows.specs.declared.vehicles.Vehicles.{Vehicles}
 use Rattle.std.specs.List.{Contains}
 use Rattle.std.specs.List.Sorted.{IsStrictlyIncreasing}
 use Rattle.gtd_eval.specs.Membership.{InTree}
-use Rattle.gtd_records.specs.declared.vehicles.Vehicles.TheVariants.{Every, Only, AllBut}
-use Rattle.gtd_records.specs.declared.direction.Closed.TheVariants.{One, Both}
-use Rattle.gtd_records.specs.declared.direction.Direction.{Direction}
+use Rattle.gtd_rows.specs.declared.direction.Closed.TheVariants.{Both}
+use Rattle.gtd_rows.specs.declared.direction.Direction.{Direction}
+use Rattle.gtd_rows.specs.Serving.{ClosesDirection, Serves}
 
 -- The element, in which direction it is closed, for which vehicle types, and at the seconds of which expression: at all
 -- seconds if none is given.
@@ -17,17 +17,6 @@ pub record Restriction : Type 0 where
   pub closed : Closed
   pub vehicles : Vehicles
   pub domain : Option Tree
-
--- the type is one of them
-abbrev pub Serves : Vehicles → ℕ → Type 0
-Serves Every vehicle = ⊤
-Serves (Only types) vehicle = Contains types vehicle
-Serves (AllBut types) vehicle = Contains types vehicle → ⊥
-
--- what is closed has this direction
-abbrev pub ClosesDirection : Closed → Direction → Type 0
-ClosesDirection (One closed) direction = closed ≡ direction
-ClosesDirection Both direction = ⊤
 
 -- the expression contains the second; no expression stands for every second
 abbrev pub HoldsAt : Option Tree → ℤ → Type 0

@@ -9,7 +9,7 @@ use Rattle.gtd_eval.specs.declared.leaf.Leaf.{Ghosts}
 use Rattle.gtd_eval.specs.declared.tree.SweepTree.{SweepTree}
 use Rattle.gtd_records.specs.Closing.{Closes, HoldsAt, Restriction}
 use Rattle.gtd_records.specs.declared.closing_cursors.ClosingCursors.{ClosingCursors}
-use Rattle.gtd_records.specs.declared.direction.Direction.{Direction}
+use Rattle.gtd_rows.specs.declared.direction.Direction.{Direction}
 
 -- one of the cursors has the second
 abbrev pub HasSecond : ClosingCursors → ℤ → Type 0

@@ -3,12 +3,12 @@ use Rattle.std.specs.Prelude.{◌≡◌, ◌<◌, ◌≤◌, ◌⊎◌, ℕ, ◌
 use Rattle.gtd_core.specs.Limits.{most_rows, most_file_bytes}
 use Rattle.csv.specs.Reading.{default_config, records, strip_bom}
 use Rattle.gtd_records.specs.Closing.{Restriction}
-use Rattle.gtd_records.specs.Columns.{Fields}
+use Rattle.gtd_rows.specs.Columns.{Fields}
 use Rattle.gtd_records.specs.ComputedRow.{IsRow}
 use Rattle.gtd_records.specs.File.{header}
 use Rattle.gtd_records.specs.declared.fault.RecordFault.{RecordFault}
 use Rattle.gtd_records.specs.declared.fault.RecordFault.TheVariants as fault
-use Rattle.gtd_records.specs.declared.vehicles.Version.{Version}
+use Rattle.gtd_rows.specs.declared.vehicles.Version.{Version}
 
 -- these rows stand for these restrictions, one for one, if the first row has this number
 abbrev pub AreRecords : Version → ℕ → List Fields → List Restriction → Type 0

@@ -7,10 +7,10 @@ use Rattle.csv.specs.Reading.{default_config, records, strip_bom}
 use Rattle.csv.specs.declared.parser.State.{State}
 use Rattle.csv.specs.declared.parser.State.TheVariants.{StartRecord}
 use Rattle.gtd_records.specs.File.{header}
-use Rattle.gtd_records.specs.Table.{IsBetween}
+use Rattle.gtd_rows.specs.Table.{IsBetween}
 use Rattle.gtd_records.specs.declared.fault.RecordFault.{RecordFault}
 use Rattle.gtd_records.specs.declared.fault.RecordFault.TheVariants as fault
-use Rattle.gtd_records.specs.declared.vehicles.Version.{Version}
+use Rattle.gtd_rows.specs.declared.vehicles.Version.{Version}
 
 -- the state that bytes lead to, from a state
 unfoldable pub state_after : State → List ℕ → State

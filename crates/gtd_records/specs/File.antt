@@ -5,8 +5,8 @@ use Rattle.gtd_records.specs.Closing.{Restriction}
 use Rattle.gtd_records.specs.Row.{IsRow}
 use Rattle.gtd_records.specs.declared.fault.RecordFault.{RecordFault}
 use Rattle.gtd_records.specs.declared.fault.RecordFault.TheVariants as fault
-use Rattle.gtd_records.specs.declared.vehicles.Version.{Version}
-use Rattle.gtd_records.specs.declared.vehicles.Version.TheVariants as version
+use Rattle.gtd_rows.specs.declared.vehicles.Version.{Version}
+use Rattle.gtd_rows.specs.declared.vehicles.Version.TheVariants as version
 
 -- the fault is of the file, and not of the device or of memory
 abbrev pub IsOfFile : RecordFault → Type 0

@@ -6,11 +6,11 @@ use Rattle.gtd_places.specs.declared.place.RowPlace.{RowPlace}
 use Rattle.gtd_places.specs.declared.place.RowVehicles.{RowVehicles}
 use Rattle.gtd_places.specs.declared.place.RowVehicles.TheVariants.{Every, One, SeeRow}
 use Rattle.gtd_records.specs.Closing.{Restriction}
-use Rattle.gtd_records.specs.declared.direction.Closed.{Closed}
-use Rattle.gtd_records.specs.declared.direction.Closed.TheVariants as closed
-use Rattle.gtd_records.specs.declared.direction.Direction.TheVariants as direction
-use Rattle.gtd_records.specs.declared.vehicles.Vehicles.{Vehicles}
-use Rattle.gtd_records.specs.declared.vehicles.Vehicles.TheVariants as vehicles
+use Rattle.gtd_rows.specs.declared.direction.Closed.{Closed}
+use Rattle.gtd_rows.specs.declared.direction.Closed.TheVariants as closed
+use Rattle.gtd_rows.specs.declared.direction.Direction.TheVariants as direction
+use Rattle.gtd_rows.specs.declared.vehicles.Vehicles.{Vehicles}
+use Rattle.gtd_rows.specs.declared.vehicles.Vehicles.TheVariants as vehicles
 
 -- the directions that the row closes
 abbrev pub directions_of : Closed → RowDirections

@@ -1,14 +1,14 @@
 -- What reading a record file and listing its faults make of its rows.
 use Rattle.std.specs.Prelude.{◌≡◌, ◌≢◌, ℕ, Bool, true, false, [], ◌∷◌, ◌++◌, Result, Ok, Err}
 use Rattle.gtd_records.specs.Closing.{Restriction}
-use Rattle.gtd_records.specs.Columns.{Fields}
+use Rattle.gtd_rows.specs.Columns.{Fields}
 use Rattle.gtd_records.specs.ComputedRow.{IsRow}
 use Rattle.gtd_records.specs.Faults.{with_fault}
 use Rattle.gtd_records.specs.File.{header}
 use Rattle.gtd_records.specs.declared.fault.RecordFault.{RecordFault}
 use Rattle.gtd_records.specs.declared.faults.FaultList.{FaultList}
 use Rattle.gtd_records.specs.declared.file.Reading.{Reading}
-use Rattle.gtd_records.specs.declared.vehicles.Version.{Version}
+use Rattle.gtd_rows.specs.declared.vehicles.Version.{Version}
 
 -- the first record is the header of the version, or of none
 abbrev pub IsHeader : Fields → Version → Bool → Type 0

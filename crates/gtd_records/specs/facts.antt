@@ -1,16 +1,11 @@
 pub mod OpenDecisions
-pub mod RowsRead
-pub mod TakenRows
 pub mod FileFacts
 pub mod FileForms
 pub mod IndexFacts
 pub mod LentDomains
-pub mod NumberFacts
 pub mod OneWayFacts
 pub mod OneAnswer
 pub mod RestrictionCode
-pub mod Rising
-pub mod SortedCodes
 pub mod RowFacts
 pub mod RowFaults
 pub mod RowForms

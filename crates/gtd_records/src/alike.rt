@@ -5,9 +5,9 @@ ghost use Rattle.gtd_records.specs.Alike.{AreCovered};
 ghost use Rattle.gtd_records.specs.Closing.{IsClosed, Restriction};
 ghost use Rattle.gtd_records.specs.Index.{AreElementPlaces, ArePlacesWithin, IsRepeated};
 
-use crate::direction::{DirectedElement, Direction};
 use crate::index::Records;
 use gtd_places::RowPlace;
+use gtd_rows::{DirectedElement, Direction};
 
 /// How many rows an element has at most that is compared with others.
 const MOST_ROWS: usize = 64;

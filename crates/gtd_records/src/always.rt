@@ -8,10 +8,10 @@ ghost use Rattle.gtd_eval.specs.Cursors.{SomeHolds, total_nodes};
 ghost use Rattle.gtd_records.specs.Closing.{IsClosed};
 
 use crate::closing_cursors::ClosingCursors;
-use crate::direction::DirectedElement;
 use crate::index::Records;
 use gtd_core::{Horizon, Sec, Span};
 use gtd_eval::Cursor;
+use gtd_rows::DirectedElement;
 use gtd_spans::SpanSource;
 use std::alloc::{AllocError, Global};
 

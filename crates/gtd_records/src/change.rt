@@ -6,11 +6,11 @@ ghost use Rattle.gtd_core.specs.Whole.{whole};
 ghost use Rattle.gtd_records.specs.Closing.{IsOpen};
 ghost use Rattle.gtd_spans.specs.Change.{IsNextChange, NeverChanges};
 
-use crate::direction::DirectedElement;
 use crate::index::Records;
 use crate::schedule::open_seconds;
 use gtd_core::{Horizon, Sec};
 use gtd_eval::days_to_look;
+use gtd_rows::DirectedElement;
 use std::alloc::{AllocError, Global};
 
 // How often the records are asked how long they stay as they are, before their seconds are gone over span by span.

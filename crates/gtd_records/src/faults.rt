@@ -8,10 +8,10 @@ ghost use Rattle.gtd_devices.specs.WholeInput.{failures_after_whole};
 
 use crate::fault::RecordFault;
 use crate::row::RowReader;
-use crate::rows::{RowTaker, RowsEnd, take_rows};
 use csv::ByteRecord;
 use gtd_core::limits::MOST_FILE_BYTES;
 use gtd_devices::{Input, InputFault, read_whole};
+use gtd_rows::{RowTaker, RowsEnd, take_rows};
 use std::alloc::{AllocError, Global};
 
 /// The faults of the rows that were read.

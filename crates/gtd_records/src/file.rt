@@ -8,9 +8,9 @@ ghost use Rattle.gtd_records.specs.ComputedFile.{IsTable};
 use crate::fault::RecordFault;
 use crate::record::Record;
 use crate::row::RowReader;
-use crate::rows::{RowTaker, RowsEnd, take_rows};
 use csv::ByteRecord;
 use gtd_core::limits::MOST_ROWS;
+use gtd_rows::{RowTaker, RowsEnd, take_rows};
 use std::alloc::{AllocError, Global};
 
 /// The records of the rows that were read, and the fault of the row after them.

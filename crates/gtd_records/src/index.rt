@@ -12,12 +12,11 @@ ghost use Rattle.gtd_eval.specs.Cursors.{SomeHolds};
 ghost use Rattle.gtd_records.specs.ClosingCursors.{AreAtStart, HasSecond, IsClosedRepeating, RepeatIn, nodes_with_cursors};
 ghost use Rattle.gtd_records.specs.ClosingRows.{AreClosingRows};
 ghost use Rattle.gtd_records.specs.Index.{AreClosing, AreElementPlaces, ArePlaces, ArePlacesWithin, IsRepeated};
-ghost use Rattle.gtd_records.specs.Columns.{IsSortedSet};
+ghost use Rattle.gtd_rows.specs.Columns.{IsSortedSet};
 ghost use Rattle.gtd_records.specs.RowPlaces.{place_of};
 
 use crate::closed_when::ClosedWhen;
 use crate::closing_cursors::ClosingCursors;
-use crate::direction::Direction;
 use crate::record::Record;
 use crate::row_place::{is_closed_in, place_of};
 use gtd_core::{Horizon, Op, Sec};
@@ -25,6 +24,7 @@ use gtd_eval::{Period, Stay};
 use gtd_places::{
     OrderedPlaces, RowPlace, RowVehicles, Sections, by_element, elements_of, places_below_near,
 };
+use gtd_rows::Direction;
 use std::alloc::{AllocError, Global};
 use std::marker::Model;
 

@@ -10,10 +10,10 @@ ghost use Rattle.gtd_records.specs.Faults.{AreFileFaults, AreRowFaults, IsFaulty
 ghost use Rattle.gtd_core.specs.Limits.{most_file_bytes, most_rows};
 ghost use Rattle.gtd_records.specs.File.{IsFile, IsTable, header};
 ghost use Rattle.gtd_records.specs.Closing.{Restriction};
-ghost use Rattle.gtd_records.specs.Table.{IsBetween};
-ghost use Rattle.gtd_records.specs.Columns.{Fields};
+ghost use Rattle.gtd_rows.specs.Table.{IsBetween};
+ghost use Rattle.gtd_rows.specs.Columns.{Fields};
 ghost use Rattle.gtd_records.specs.declared.fault.RecordFault.{RecordFault};
-ghost use Rattle.gtd_records.specs.declared.vehicles.Version.{Version};
+ghost use Rattle.gtd_rows.specs.declared.vehicles.Version.{Version};
 
 use gtd_text::laws::each_text;
 

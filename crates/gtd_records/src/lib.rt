@@ -8,25 +8,19 @@
 
 pub use alike::{ClosingHashes, are_closed_alike, hashes_of_closing};
 pub use change::next_change;
-pub use column::{read_closed, read_direction, read_number};
-pub use direction::{Closed, DirectedElement, Direction};
 pub use fault::RecordFault;
 pub use faults::{faults_of, read_faults};
 pub use index::Records;
 pub use reader::read_records;
 pub use record::Record;
-pub use row::{Columns, RowReader, four_columns};
-pub use rows::{RowTaker, RowsEnd, next_row, table, take_rows};
+pub use row::RowReader;
 pub use schedule::{open_seconds, schedule_of};
-pub use vehicles::{Codes, Vehicles, Version, read_vehicles};
 
 mod alike;
 mod always;
 mod change;
 mod closed_when;
 mod closing_cursors;
-mod column;
-mod direction;
 mod fault;
 mod faults;
 mod file;
@@ -37,8 +31,6 @@ mod reader;
 mod record;
 mod row;
 mod row_place;
-mod rows;
 mod schedule;
 mod shared;
-mod vehicles;
 mod week;

@@ -10,11 +10,10 @@ ghost use Rattle.gtd_eval.specs.Periods.{RepeatsFrom};
 ghost use Rattle.gtd_eval.specs.Stays.{IsStay};
 ghost use Rattle.gtd_spans.specs.Normal.{Holds};
 
-use crate::direction::{Closed, Direction};
 use crate::shared::SharedDomain;
-use crate::vehicles::Vehicles;
 use gtd_core::{Domain, Horizon, Sec};
 use gtd_eval::{Leaf, Period, Stay, SweepTree, period_of, stay_of};
+use gtd_rows::{Closed, Direction, Vehicles};
 use std::alloc::{AllocError, Global};
 use std::marker::Model;
 

@@ -1,63 +1,20 @@
 //! The rows of a record file.
 
-ghost use Rattle.std.specs.Prelude.{◌≡◌, ◌≢◌, [], ◌∷◌, length, IfSome, IfNone, MatchOption, Err};
+ghost use Rattle.std.specs.Prelude.{◌≡◌, ◌≢◌, MatchOption, Err};
 ghost use Rattle.csv.specs.Records.{fields_of};
 ghost use Rattle.gtd_records.specs.ComputedRow.{IsRow, IsDomainRead};
 ghost use Rattle.gtd_records.specs.File.{header};
 ghost use Rattle.gtd_records.specs.RowTakers.{IsHeader};
-ghost use Rattle.gtd_records.specs.declared.vehicles.Version.{Version};
+ghost use Rattle.gtd_rows.specs.declared.vehicles.Version.{Version};
 
-use crate::column::{read_closed, read_number};
 use crate::fault::RecordFault;
 use crate::known::KnownTexts;
 use crate::record::Record;
 use crate::shared::SharedDomain;
-use crate::vehicles::{Version, read_vehicles};
 use csv::ByteRecord;
 use gtd_core::Fault;
+use gtd_rows::{Version, four_columns, read_closed, read_number, read_vehicles};
 use std::alloc::Global;
-
-/// The columns of a row that has four.
-#[derive(Drop)]
-pub struct Columns<'a> {
-    /// The element.
-    pub element: &'a [u8],
-    /// The directions that are closed.
-    pub closed: &'a [u8],
-    /// The vehicle types.
-    pub vehicles: &'a [u8],
-    /// When it closes: in a record file, the domain.
-    pub last: &'a [u8],
-}
-
-/// The four columns of a row, or `None` if it does not have four. Takes no memory.
-pub fn four_columns(row: &ByteRecord) -> Option<Columns<'_>>
-    ensures four { IfSome result (λ columns. fields_of row.now
-        ≡ columns.element.now ∷ columns.closed.now ∷ columns.vehicles.now ∷ columns.last.now ∷ []) }
-    ensures other { IfNone result (length (fields_of row.now) ≢ 4) }
-{
-    if row.len() != 4 {
-        return None;
-    }
-    let Some(element) = row.get(0) else {
-        return None;
-    };
-    let Some(closed) = row.get(1) else {
-        return None;
-    };
-    let Some(vehicles) = row.get(2) else {
-        return None;
-    };
-    let Some(last) = row.get(3) else {
-        return None;
-    };
-    Some(Columns {
-        element,
-        closed,
-        vehicles,
-        last,
-    })
-}
 
 // The version that a row is the header of.
 fn version_of(row: &ByteRecord) -> Option<Version>

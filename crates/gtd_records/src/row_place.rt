@@ -1,14 +1,13 @@
 //! The places of records, with the directions and vehicle types of these.
 
 ghost use Rattle.std.specs.Prelude.{◌≡◌, ◌↔◌, IsTrue};
-ghost use Rattle.gtd_records.specs.Closing.{ClosesDirection};
+ghost use Rattle.gtd_rows.specs.Serving.{ClosesDirection};
 ghost use Rattle.gtd_records.specs.RowPlaces.{directions_of, one_or_row, place_of, vehicles_of};
-ghost use Rattle.gtd_records.specs.declared.direction.Closed.{Closed as closed_spec};
+ghost use Rattle.gtd_rows.specs.declared.direction.Closed.{Closed as closed_spec};
 
-use crate::direction::{Closed, Direction};
 use crate::record::Record;
-use crate::vehicles::{Codes, Vehicles};
 use gtd_places::{RowDirections, RowPlace, RowVehicles};
+use gtd_rows::{Closed, Codes, Direction, Vehicles};
 
 // The directions that a record closes, as its place has them.
 fn directions_of(closed: Closed) -> RowDirections

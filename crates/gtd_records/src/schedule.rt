@@ -7,10 +7,10 @@ ghost use Rattle.gtd_records.specs.Closing.{IsOpen};
 
 use crate::always::is_always_closed;
 use crate::closed_when::ClosedWhen;
-use crate::direction::{DirectedElement, Direction};
 use crate::index::Records;
 use gtd_core::Horizon;
 use gtd_eval::KeptCursor;
+use gtd_rows::{DirectedElement, Direction};
 use gtd_spans::SpanList;
 use std::alloc::{AllocError, Global};
 

@@ -2,8 +2,8 @@
 use Rattle.std.proofs.Common.{◌≡◌, ◌↔◌, ◌∙◌, sym, subst, ◌<◌, ℕ, List, length, get_or}
 use Rattle.std.specs.Prelude.{None, slice_index_or}
 use Rattle.gtd_records.specs.Closing.{Restriction}
-use Rattle.gtd_records.specs.declared.direction.Closed.TheVariants.{Both}
-use Rattle.gtd_records.specs.declared.vehicles.Vehicles.TheVariants.{Every}
+use Rattle.gtd_rows.specs.declared.direction.Closed.TheVariants.{Both}
+use Rattle.gtd_rows.specs.declared.vehicles.Vehicles.TheVariants.{Every}
 use Rattle.gtd_repeats.specs.Answers.{IsWithinSeconds}
 use Rattle.gtd_repeats.specs.Findings.{IsWithinOf}
 use Rattle.gtd_repeats.specs.Firsts.{AreFirsts}

@@ -6,7 +6,7 @@ use Rattle.csv.specs.Reading.{default_config, records, strip_bom}
 use Rattle.gtd_lines.specs.Lines.{AreLinesOfRows, IsLine}
 use Rattle.gtd_records.specs.Closing.{Restriction}
 use Rattle.gtd_records.specs.File.{AreRows, IsFile, IsTable}
-use Rattle.gtd_records.specs.declared.vehicles.Version.{Version}
+use Rattle.gtd_rows.specs.declared.vehicles.Version.{Version}
 use Rattle.gtd_repeats.specs.Findings.{AreFindingsOf, IsSaidOfRow, IsSaidOfText, with_finding}
 use Rattle.gtd_repeats.specs.Listing.{AreFindingLines, AreOfRows, finding_line, row_count, row_of}
 use Rattle.gtd_repeats.specs.declared.findings.Finding.{Finding}

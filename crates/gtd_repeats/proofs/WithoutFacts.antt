@@ -7,10 +7,11 @@ use Rattle.std.specs.List.{list_any}
 use Rattle.std.proofs.lemmas.Bool.{cases_Bool, eqb-true}
 use Rattle.std.proofs.lemmas.List.Folds.{list_any-append}
 use Rattle.gtd_core.specs.Seconds.{IsHorizonSecond}
-use Rattle.gtd_records.specs.Closing.{Closes, ClosesDirection, Restriction}
-use Rattle.gtd_records.specs.declared.direction.Closed.{Closed}
-use Rattle.gtd_records.specs.declared.direction.Closed.TheVariants.{Both, One}
-use Rattle.gtd_records.specs.declared.direction.Direction.{Direction}
+use Rattle.gtd_records.specs.Closing.{Closes, Restriction}
+use Rattle.gtd_rows.specs.Serving.{ClosesDirection}
+use Rattle.gtd_rows.specs.declared.direction.Closed.{Closed}
+use Rattle.gtd_rows.specs.declared.direction.Closed.TheVariants.{Both, One}
+use Rattle.gtd_rows.specs.declared.direction.Direction.{Direction}
 use Rattle.gtd_report.specs.Run.{IsVehicleType}
 use Rattle.gtd_repeats.specs.Findings.{AreFindings, AreFindingsOf, IsSaidOfRow, IsSaidOfText, with_finding}
 use Rattle.gtd_repeats.specs.Sameness.{ClosesWithin, IsSameRow, IsWithinRow, row_at}

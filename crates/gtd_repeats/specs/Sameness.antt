@@ -2,12 +2,13 @@
 use Rattle.std.specs.Prelude.{◌≡◌, ◌<◌, ◌↔◌, ℕ, ℤ, List, length, get_or, Option, None}
 use Rattle.gtd_core.specs.Seconds.{IsHorizonSecond}
 use Rattle.gtd_core.specs.Trees.{Tree}
-use Rattle.gtd_records.specs.Closing.{ClosesDirection, HoldsAt, Restriction, Serves}
-use Rattle.gtd_records.specs.declared.direction.Closed.{Closed}
-use Rattle.gtd_records.specs.declared.direction.Closed.TheVariants.{Both}
-use Rattle.gtd_records.specs.declared.direction.Direction.{Direction}
-use Rattle.gtd_records.specs.declared.vehicles.Vehicles.{Vehicles}
-use Rattle.gtd_records.specs.declared.vehicles.Vehicles.TheVariants.{Every}
+use Rattle.gtd_records.specs.Closing.{HoldsAt, Restriction}
+use Rattle.gtd_rows.specs.Serving.{ClosesDirection, Serves}
+use Rattle.gtd_rows.specs.declared.direction.Closed.{Closed}
+use Rattle.gtd_rows.specs.declared.direction.Closed.TheVariants.{Both}
+use Rattle.gtd_rows.specs.declared.direction.Direction.{Direction}
+use Rattle.gtd_rows.specs.declared.vehicles.Vehicles.{Vehicles}
+use Rattle.gtd_rows.specs.declared.vehicles.Vehicles.TheVariants.{Every}
 use Rattle.gtd_report.specs.Run.{IsVehicleType}
 use Rattle.gtd_repeats.specs.declared.alike.Kind.{Kind}
 use Rattle.gtd_repeats.specs.declared.alike.Kind.TheVariants as kind

@@ -3,7 +3,7 @@ use Rattle.std.specs.Prelude.{◌+◌, ◌==◌, ◌||◌, ◌↔◌, ℕ, ℤ, 
 use Rattle.std.specs.List.{list_any}
 use Rattle.gtd_core.specs.Seconds.{IsHorizonSecond}
 use Rattle.gtd_records.specs.Closing.{IsClosed, Restriction}
-use Rattle.gtd_records.specs.declared.direction.Direction.{Direction}
+use Rattle.gtd_rows.specs.declared.direction.Direction.{Direction}
 use Rattle.gtd_report.specs.Run.{IsVehicleType}
 use Rattle.gtd_repeats.specs.declared.findings.Finding.{Finding}
 use Rattle.gtd_repeats.specs.declared.findings.Finding.TheVariants.{SameRow, WithinRow, SameMeaning}

@@ -1,10 +1,10 @@
 //! Whether the vehicle types and the directions of a row are among those of another.
 
 ghost use Rattle.std.specs.Prelude.{◌≡◌, ◌↔◌, IsTrue};
-ghost use Rattle.gtd_records.specs.Closing.{Serves};
+ghost use Rattle.gtd_rows.specs.Serving.{Serves};
 ghost use Rattle.gtd_repeats.specs.Sameness.{ClosesWithin, ServeSame, ServesWithin};
 
-use gtd_records::{Closed, Direction, Vehicles};
+use gtd_rows::{Closed, Direction, Vehicles};
 
 // Whether a type is one of them.
 fn serves(vehicles: &Vehicles, vehicle: u8) -> bool

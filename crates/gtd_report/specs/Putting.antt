@@ -9,8 +9,8 @@ use Rattle.gtd_report.specs.declared.output.ShortPut.{ShortPut}
 use Rattle.gtd_report.specs.declared.output.Stop.{Stop}
 use Rattle.gtd_report.specs.declared.output.Stop.TheVariants.{Output, Memory}
 use Rattle.gtd_records.specs.Closing.{AreElements, Restriction}
-use Rattle.gtd_records.specs.declared.direction.Direction.{Direction}
-use Rattle.gtd_records.specs.declared.direction.Direction.TheVariants.{Positive, Negative}
+use Rattle.gtd_rows.specs.declared.direction.Direction.{Direction}
+use Rattle.gtd_rows.specs.declared.direction.Direction.TheVariants.{Positive, Negative}
 
 -- the word for a direction
 abbrev pub direction_word : Direction → List ℕ

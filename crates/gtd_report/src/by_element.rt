@@ -3,13 +3,14 @@
 ghost use Rattle.std.specs.Prelude.{◌≡◌, ◌+◌, ◌*◌, ◌<◌, ◌≤◌, ◌^◌, ℕ, List, length, IsTrue, OnOk};
 ghost use Rattle.gtd_core.specs.Limits.{most_rows};
 ghost use Rattle.gtd_records.specs.Closing.{AreElements, Restriction};
-ghost use Rattle.gtd_records.specs.declared.direction.Direction.{Direction};
+ghost use Rattle.gtd_rows.specs.declared.direction.Direction.{Direction};
 ghost use Rattle.gtd_report.specs.Putting.{AreElementLines, AreLinesOf, IsByElement, IsOneEach, PutsText, failures_after_stop};
 ghost use Rattle.gtd_report.specs.Putting.{most_direction_bytes, most_direction_lines, nothing_put};
 
 use crate::output::{Printer, Stop, finish, put_line};
 use gtd_devices::Output;
-use gtd_records::{DirectedElement, Direction, Records};
+use gtd_records::Records;
+use gtd_rows::{DirectedElement, Direction};
 
 /// The lines of an element in a direction.
 pub trait DirectionLines {

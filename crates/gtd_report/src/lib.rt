@@ -6,7 +6,7 @@
 
 pub use by_element::{DirectionLines, ElementLines, put_both, put_by_element, put_listed};
 pub use fault::RunFault;
-pub use gtd_records::DirectedElement;
+pub use gtd_rows::DirectedElement;
 pub use output::{Printer, Progress, ShortPut, Stop, finish, put_line};
 pub use report::{Report, run_report};
 pub use subject::Subject;

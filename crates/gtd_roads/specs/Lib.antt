@@ -20,7 +20,7 @@ pub use Rattle.gtd_devices.specs.declared.whole.InputFault
 pub use Rattle.gtd_gathered.specs.Gathering
 pub use Rattle.gtd_records.specs.Closing
 pub use Rattle.gtd_records.specs.ClosingRows
-pub use Rattle.gtd_records.specs.Columns
+pub use Rattle.gtd_rows.specs.Columns
 pub use Rattle.gtd_records.specs.ComputedFile
 pub use Rattle.gtd_records.specs.ComputedRow
 pub use Rattle.gtd_records.specs.Faults
@@ -28,11 +28,11 @@ pub use Rattle.gtd_records.specs.File
 pub use Rattle.gtd_records.specs.Reading
 pub use Rattle.gtd_records.specs.RecordFaultNames
 pub use Rattle.gtd_records.specs.Cut
-pub use Rattle.gtd_records.specs.Table
-pub use Rattle.gtd_records.specs.declared.direction.Closed
-pub use Rattle.gtd_records.specs.declared.direction.Direction
+pub use Rattle.gtd_rows.specs.Table
+pub use Rattle.gtd_rows.specs.declared.direction.Closed
+pub use Rattle.gtd_rows.specs.declared.direction.Direction
 pub use Rattle.gtd_records.specs.declared.fault.RecordFault
-pub use Rattle.gtd_records.specs.declared.vehicles.Version
+pub use Rattle.gtd_rows.specs.declared.vehicles.Version
 pub use Rattle.gtd_report.specs.Putting
 pub use Rattle.gtd_report.specs.Run
 pub use Rattle.gtd_report.specs.RunFaultNames

@@ -12,10 +12,10 @@ pub use gtd_devices::{
 pub use gtd_gathered::{GATHERED, Gathered};
 pub use gtd_migrate::{Migration, run_migrate};
 pub use gtd_records::{
-    Closed, Codes, Direction, Record, RecordFault, Records, Vehicles, faults_of, open_seconds,
-    read_direction, read_faults, read_number, read_records, schedule_of,
+    Record, RecordFault, Records, faults_of, open_seconds, read_faults, read_records, schedule_of,
 };
 pub use gtd_report::{Report, RunFault, Subject, run_report};
+pub use gtd_rows::{Closed, Codes, Direction, Vehicles, read_direction, read_number};
 pub use gtd_schedule::{Schedule, run_schedule};
 pub use gtd_spans::{SpanList, SpanSource};
 pub use gtd_year::run_year;

@@ -6,7 +6,7 @@ use Rattle.gtd_core.specs.Seconds.{Interval}
 use Rattle.gtd_core.specs.Whole.{whole}
 use Rattle.gtd_eval.specs.Cursors.{cursor_list, cursor_whole, IsAtStart}
 use Rattle.gtd_records.specs.Closing.{IsClosed, IsOpen, Restriction}
-use Rattle.gtd_records.specs.declared.direction.DirectedElement.{DirectedElement}
+use Rattle.gtd_rows.specs.declared.direction.DirectedElement.{DirectedElement}
 use Rattle.gtd_spans.specs.facts.NormalFor.{normal-for, normal-of}
 use Rattle.gtd_schedule.specs.OpenCursors.{AreOpenSeconds, AreRight, IsOf, IsStarted, IsStored, WholeList, whole_of}
 use Rattle.gtd_schedule.specs.declared.cursors.OpenCursor.{OpenCursor}

@@ -4,7 +4,7 @@ use Rattle.std.specs.Prelude.{Bool, Ok}
 use Rattle.std.proofs.lemmas.List.{length-map}
 use Rattle.gtd_core.specs.Seconds.{Interval}
 use Rattle.gtd_eval.specs.Taking.{HandsOn}
-use Rattle.gtd_records.specs.declared.direction.Direction.{Direction}
+use Rattle.gtd_rows.specs.declared.direction.Direction.{Direction}
 use Rattle.gtd_report.specs.Putting.{Puts, failures_after_stop}
 use Rattle.gtd_report.specs.declared.output.Progress.{Progress}
 use Rattle.gtd_report.specs.declared.output.Stop.TheVariants.{Output}

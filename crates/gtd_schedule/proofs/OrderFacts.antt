@@ -9,8 +9,8 @@ use Rattle.std.proofs.lemmas.List.Sorted.{Contains-permutation, IsPermutation-sy
 use Rattle.std.proofs.lemmas.Map.Keys.{IsStrictlyIncreasing-from_sorted}
 use Rattle.gtd_core.specs.declared.horizon.Horizon.{Horizon}
 use Rattle.gtd_records.specs.Closing.{AreElements, Closes, IsOpen, Restriction}
-use Rattle.gtd_records.specs.declared.direction.Direction.{Direction}
-use Rattle.gtd_records.specs.declared.direction.Direction.TheVariants.{Positive, Negative}
+use Rattle.gtd_rows.specs.declared.direction.Direction.{Direction}
+use Rattle.gtd_rows.specs.declared.direction.Direction.TheVariants.{Positive, Negative}
 use Rattle.gtd_report.specs.facts.SomeElements.{any_first, any_later, any_none, any_split, sorted}
 use Rattle.gtd_report.specs.Putting.{AreLinesOf}
 use Rattle.gtd_schedule.proofs.SplitFacts.{high_passes, low_passes, of_kept, passes_high, passes_low, same_normal}

@@ -4,7 +4,7 @@ use Rattle.gtd_core.specs.Seconds.{Interval}
 use Rattle.gtd_core.specs.Whole.{whole}
 use Rattle.gtd_core.specs.declared.horizon.Horizon.{Horizon}
 use Rattle.gtd_records.specs.Closing.{IsOpen, Restriction}
-use Rattle.gtd_records.specs.declared.direction.Direction.{Direction}
+use Rattle.gtd_rows.specs.declared.direction.Direction.{Direction}
 use Rattle.gtd_report.specs.facts.ElementFacts.{one_by_element}
 use Rattle.gtd_report.specs.Putting.{IsOne}
 use Rattle.gtd_schedule.specs.Schedule.{AreLines, AreSpanLines, IsSchedule, header_line}

@@ -12,20 +12,20 @@ use Rattle.gtd_core.specs.Trees.{Tree}
 use Rattle.gtd_core.specs.declared.fault.TextFault.{TextFault}
 use Rattle.gtd_core.specs.declared.horizon.Horizon.{Horizon}
 use Rattle.gtd_records.specs.facts.IndexFacts.{any_default}
-use Rattle.gtd_records.specs.facts.NumberFacts.{number_below}
+use Rattle.gtd_rows.specs.facts.NumberFacts.{number_below}
 use Rattle.gtd_records.specs.Closing.{AreElements, Restriction}
-use Rattle.gtd_records.specs.Columns.{closed_of, number_of, Fields, IsOrdered, vehicles_of}
+use Rattle.gtd_rows.specs.Columns.{closed_of, number_of, Fields, IsOrdered, vehicles_of}
 use Rattle.gtd_records.specs.facts.FileForms.{computed_table}
 use Rattle.gtd_records.specs.ComputedFile.{AreRecords, IsTable}
 use Rattle.gtd_records.specs.ComputedRow.{IsDomainColumn, IsRow, with_domain}
 use Rattle.gtd_records.specs.File.{IsFile}
-use Rattle.gtd_records.specs.declared.direction.Closed.{Closed}
-use Rattle.gtd_records.specs.declared.direction.Direction.{Direction}
-use Rattle.gtd_records.specs.declared.direction.Direction.TheVariants.{Positive, Negative}
+use Rattle.gtd_rows.specs.declared.direction.Closed.{Closed}
+use Rattle.gtd_rows.specs.declared.direction.Direction.{Direction}
+use Rattle.gtd_rows.specs.declared.direction.Direction.TheVariants.{Positive, Negative}
 use Rattle.gtd_records.specs.declared.fault.RecordFault.{RecordFault}
 use Rattle.gtd_records.specs.declared.fault.RecordFault.TheVariants as fault
-use Rattle.gtd_records.specs.declared.vehicles.Vehicles.{Vehicles}
-use Rattle.gtd_records.specs.declared.vehicles.Version.{Version}
+use Rattle.gtd_rows.specs.declared.vehicles.Vehicles.{Vehicles}
+use Rattle.gtd_rows.specs.declared.vehicles.Version.{Version}
 use Rattle.gtd_report.specs.Run.{IsVehicleType}
 use Rattle.gtd_schedule.specs.facts.LineFacts.{length-line}
 use Rattle.gtd_report.specs.Putting.{AreLinesOf}

@@ -5,7 +5,7 @@ use Rattle.gtd_core.specs.Whole.{whole}
 use Rattle.gtd_core.specs.declared.horizon.Horizon.{Horizon}
 use Rattle.gtd_eval.specs.Membership.{IsNormalOver}
 use Rattle.gtd_records.specs.Closing.{IsOpen, Restriction}
-use Rattle.gtd_records.specs.declared.direction.Direction.{Direction}
+use Rattle.gtd_rows.specs.declared.direction.Direction.{Direction}
 use Rattle.gtd_records.specs.facts.OpenDecisions.{open_or_not}
 use Rattle.gtd_report.specs.facts.SomeElements.{some_by_element}
 use Rattle.gtd_schedule.specs.Schedule.{AreLines, IsSchedule, header_line}

@@ -3,7 +3,7 @@ use Rattle.std.proofs.Common.{◌≡◌, refl, map, ℕ, List, [], ◌∷◌}
 use Rattle.gtd_core.specs.Seconds.{Interval, day_of_second}
 use Rattle.gtd_calendar.specs.Stamp.{date_text}
 use Rattle.gtd_calendar.specs.facts.DateTexts.{date_text-is, date_text-only}
-use Rattle.gtd_records.specs.declared.direction.Direction.{Direction}
+use Rattle.gtd_rows.specs.declared.direction.Direction.{Direction}
 use Rattle.gtd_schedule.specs.Lines.{AreShown, span_line}
 use Rattle.gtd_schedule.specs.Schedule.{AreSpanLines, IsSpanLine}
 

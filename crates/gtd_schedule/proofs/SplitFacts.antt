@@ -11,10 +11,10 @@ use Rattle.std.proofs.lemmas.List.Elements.{filter_passes}
 use Rattle.std.proofs.lemmas.Map.Keys.{IsStrictlyIncreasing-from_sorted, sorted_from_strictly_increasing}
 use Rattle.gtd_core.specs.declared.horizon.Horizon.{Horizon}
 use Rattle.gtd_records.specs.facts.IndexFacts.{by_le}
-use Rattle.gtd_records.specs.facts.Rising.{AllAbove, In, Rises, from_in, to_in}
+use Rattle.gtd_rows.specs.facts.Rising.{AllAbove, In, Rises, from_in, to_in}
 use Rattle.gtd_records.specs.Closing.{AreElements, Closes, IsOpen, Restriction}
-use Rattle.gtd_records.specs.declared.direction.Direction.{Direction}
-use Rattle.gtd_records.specs.declared.direction.Direction.TheVariants.{Positive, Negative}
+use Rattle.gtd_rows.specs.declared.direction.Direction.{Direction}
+use Rattle.gtd_rows.specs.declared.direction.Direction.TheVariants.{Positive, Negative}
 use Rattle.gtd_report.specs.facts.SomeElements.{any_first, any_later, any_split, sorted}
 use Rattle.gtd_report.specs.Putting.{AreElementLines, AreLinesOf}
 use Rattle.gtd_schedule.specs.Schedule.{AreLines, IsSchedule, header_line}

@@ -4,7 +4,7 @@ use Rattle.gtd_core.specs.Seconds.{Interval}
 use Rattle.gtd_eval.specs.Cursors.{cursor_whole, IsAtStart}
 use Rattle.gtd_eval.specs.Membership.{IsNormalOver}
 use Rattle.gtd_records.specs.Closing.{IsOpen, Restriction}
-use Rattle.gtd_records.specs.declared.direction.DirectedElement.{DirectedElement}
+use Rattle.gtd_rows.specs.declared.direction.DirectedElement.{DirectedElement}
 use Rattle.gtd_schedule.specs.declared.cursors.OpenCursor.{OpenCursor}
 use Rattle.gtd_schedule.specs.declared.cursors.OpenCursors.{OpenCursors}
 use Rattle.gtd_schedule.specs.declared.run.Schedule.{Schedule}

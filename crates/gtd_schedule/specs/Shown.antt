@@ -6,8 +6,8 @@ use Rattle.gtd_core.specs.Whole.{whole}
 use Rattle.gtd_core.specs.declared.horizon.Horizon.{Horizon}
 use Rattle.gtd_calendar.specs.Stamp.{IsDateText, clock_text}
 use Rattle.gtd_records.specs.Closing.{AreElements, IsOpen, Restriction}
-use Rattle.gtd_records.specs.declared.direction.Direction.{Direction}
-use Rattle.gtd_records.specs.declared.direction.Direction.TheVariants.{Positive, Negative}
+use Rattle.gtd_rows.specs.declared.direction.Direction.{Direction}
+use Rattle.gtd_rows.specs.declared.direction.Direction.TheVariants.{Positive, Negative}
 use Rattle.gtd_report.specs.Putting.{direction_word}
 
 -- The list is normal for the set of seconds from one second on: no such second comes before the first interval, which is not

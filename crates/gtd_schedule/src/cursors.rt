@@ -6,7 +6,8 @@ ghost use Rattle.gtd_schedule.specs.OpenCursors.{AreRight, IsOf, IsStarted, IsSt
 use crate::elements::ScheduleText;
 use crate::hash_places::HashPlaces;
 use gtd_eval::KeptCursor;
-use gtd_records::{DirectedElement, are_closed_alike, open_seconds};
+use gtd_records::{are_closed_alike, open_seconds};
+use gtd_rows::DirectedElement;
 use std::alloc::{AllocError, Global};
 
 /// A cursor over the seconds in which an element is open in a direction.

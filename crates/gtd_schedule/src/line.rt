@@ -12,7 +12,7 @@ ghost use Rattle.gtd_schedule.specs.Moments.{AreMoments, first_second};
 use crate::moment::{Month, Shown, write_moment};
 use crate::months::Months;
 use gtd_core::{Sec, Span};
-use gtd_records::Direction;
+use gtd_rows::Direction;
 use itoa::Buffer;
 use std::alloc::AllocError;
 

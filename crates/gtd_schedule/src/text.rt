@@ -10,8 +10,9 @@ ghost use Rattle.gtd_schedule.specs.Schedule.{AreLines};
 use crate::cursors::OpenCursors;
 use crate::elements::{ScheduleText, put_direction_spans};
 use gtd_devices::Output;
-use gtd_records::{DirectedElement, Direction, are_closed_alike, hashes_of_closing, open_seconds};
+use gtd_records::{are_closed_alike, hashes_of_closing, open_seconds};
 use gtd_report::{Printer, Stop};
+use gtd_rows::{DirectedElement, Direction};
 
 /// An element in a direction, and the hash of what closes it.
 #[derive(Clone, Copy)]

@@ -4,8 +4,8 @@ use Rattle.gtd_core.specs.Limits.{day_seconds}
 use Rattle.gtd_core.specs.Seconds.{day_of_second}
 use Rattle.gtd_core.specs.declared.second.Sec.{Sec}
 use Rattle.gtd_records.specs.Closing.{IsOpen, Restriction}
-use Rattle.gtd_records.specs.declared.direction.DirectedElement.{DirectedElement}
-use Rattle.gtd_records.specs.declared.direction.Direction.TheVariants.{Positive}
+use Rattle.gtd_rows.specs.declared.direction.DirectedElement.{DirectedElement}
+use Rattle.gtd_rows.specs.declared.direction.Direction.TheVariants.{Positive}
 use Rattle.gtd_spans.specs.Change.{IsNextChange, NeverChanges}
 use Rattle.gtd_alike.specs.Alike.{asked_at}
 use Rattle.gtd_states.specs.States.{IsLookEnd}

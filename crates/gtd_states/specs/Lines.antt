@@ -1,7 +1,7 @@
 -- The parts of lines that tell a state.
 use Rattle.std.specs.Prelude.{◌++◌, ℕ, ℤ, List, [], ◌∷◌, Bool, true, false, Option, Some, None, codes, decimal, flat_map}
 use Rattle.gtd_calendar.specs.Stamp.{stamp_text}
-use Rattle.gtd_records.specs.declared.direction.Direction.{Direction}
+use Rattle.gtd_rows.specs.declared.direction.Direction.{Direction}
 use Rattle.gtd_report.specs.Putting.{direction_word}
 
 -- the element, the direction and the vehicle type, each with its comma

@@ -10,7 +10,8 @@ ghost use Rattle.gtd_core.specs.Limits.{day_seconds};
 
 use gtd_core::limits::{HORIZONS_END, MOST_HORIZON_DAYS};
 use gtd_core::{Horizon, Sec};
-use gtd_records::{DirectedElement, Direction, Records, next_change};
+use gtd_records::{Records, next_change};
+use gtd_rows::{DirectedElement, Direction};
 use std::alloc::{AllocError, Global};
 
 // The day before which a change is looked for, when the search begins on a day.

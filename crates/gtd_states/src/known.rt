@@ -13,7 +13,8 @@ use crate::change::change_after;
 use crate::state::ElementState;
 use gtd_alike::first_alike;
 use gtd_core::Sec;
-use gtd_records::{DirectedElement, Records};
+use gtd_records::Records;
+use gtd_rows::DirectedElement;
 use std::alloc::{AllocError, Global};
 
 /// An element in a direction, and when its state changes next.

@@ -3,7 +3,7 @@
 ghost use Rattle.std.specs.Prelude.{◌≡◌, ℕ, ℤ, List};
 ghost use Rattle.gtd_core.specs.Seconds.{IsHorizonSecond};
 ghost use Rattle.gtd_records.specs.Closing.{Restriction};
-ghost use Rattle.gtd_records.specs.declared.direction.Direction.{Direction};
+ghost use Rattle.gtd_rows.specs.declared.direction.Direction.{Direction};
 ghost use Rattle.gtd_states.specs.States.{IsState, State};
 
 /// At each second that a horizon may have, an element has exactly one state in each direction for each vehicle type.

@@ -1,8 +1,8 @@
 -- What was read names what a column names.
 use Rattle.std.proofs.Common.{◌↔◌, ℕ, Option, Some, None, Contains}
-use Rattle.gtd_records.specs.Columns.{AreTypesRead}
-use Rattle.gtd_records.specs.declared.vehicles.Vehicles.{Vehicles}
-use Rattle.gtd_records.specs.declared.vehicles.Vehicles.TheVariants.{Every, Only, AllBut}
+use Rattle.gtd_rows.specs.Columns.{AreTypesRead}
+use Rattle.gtd_rows.specs.declared.vehicles.Vehicles.{Vehicles}
+use Rattle.gtd_rows.specs.declared.vehicles.Vehicles.TheVariants.{Every, Only, AllBut}
 use Rattle.gtd_warnings.specs.Codes.{codes_listed}
 
 pub read_names : (wanted read : Option Vehicles) → AreTypesRead wanted read → (code : ℕ)

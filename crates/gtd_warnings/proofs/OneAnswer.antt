@@ -5,10 +5,10 @@ use Rattle.std.proofs.Common.{◌++◌, map, take, Option, Some, None}
 use Rattle.gtd_core.specs.Limits.{most_rows}
 use Rattle.gtd_core.specs.Trees.{Tree, Single, Joined, leaf_count}
 use Rattle.gtd_text.specs.facts.OneMeaning.{one_meaning}
-use Rattle.gtd_records.specs.Columns.{Fields}
+use Rattle.gtd_rows.specs.Columns.{Fields}
 use Rattle.gtd_records.specs.File.{header}
 use Rattle.gtd_records.specs.facts.OneAnswer.{one_version}
-use Rattle.gtd_records.specs.declared.vehicles.Version.{Version}
+use Rattle.gtd_rows.specs.declared.vehicles.Version.{Version}
 use Rattle.gtd_mistakes.specs.Told.{AreToldAt, AreToldOf, told_at}
 use Rattle.gtd_mistakes.specs.declared.rule.TheConstants.{RULES}
 use Rattle.gtd_mistakes.specs.declared.rule.Rule.{Rule}

@@ -3,7 +3,8 @@ use Rattle.std.proofs.Common.{◌≡◌, ◌∙◌, ◌<◌, ◌+◌, sym, ap, s
 use Rattle.std.proofs.lemmas.Bool.{cases_order}
 use Rattle.std.proofs.lemmas.List.{get_or_default}
 use Rattle.std.specs.Prelude.{slice_index_or}
-use Rattle.gtd_records.specs.Closing.{Restriction, Serves}
+use Rattle.gtd_records.specs.Closing.{Restriction}
+use Rattle.gtd_rows.specs.Serving.{Serves}
 use Rattle.gtd_warnings.specs.Vehicles.{IsForSome}
 
 -- none of the first records is for the type

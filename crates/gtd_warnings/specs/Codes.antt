@@ -4,11 +4,11 @@ use Rattle.std.specs.Prelude.{Option, Some, None}
 use Rattle.std.specs.List.{Contains, count_by}
 use Rattle.csv.specs.Reading.{default_config, records, strip_bom}
 use Rattle.gtd_core.specs.Limits.{most_file_bytes, most_rows}
-use Rattle.gtd_records.specs.Columns.{Fields, vehicles_of}
+use Rattle.gtd_rows.specs.Columns.{Fields, vehicles_of}
 use Rattle.gtd_records.specs.File.{header}
-use Rattle.gtd_records.specs.declared.vehicles.Vehicles.{Vehicles}
-use Rattle.gtd_records.specs.declared.vehicles.Vehicles.TheVariants.{Every, Only, AllBut}
-use Rattle.gtd_records.specs.declared.vehicles.Version.{Version}
+use Rattle.gtd_rows.specs.declared.vehicles.Vehicles.{Vehicles}
+use Rattle.gtd_rows.specs.declared.vehicles.Vehicles.TheVariants.{Every, Only, AllBut}
+use Rattle.gtd_rows.specs.declared.vehicles.Version.{Version}
 use Rattle.gtd_mistakes.specs.declared.rule.Rule.TheVariants as rule
 use Rattle.gtd_warnings.specs.declared.codes.LoneCode.{LoneCode}
 use Rattle.gtd_warnings.specs.declared.file.Asked.{Asked}

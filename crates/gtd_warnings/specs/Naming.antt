@@ -1,9 +1,9 @@
 -- What was read of the vehicle types that a row names.
 use Rattle.std.specs.Prelude.{◌↔◌, ℕ, Option}
 use Rattle.std.specs.List.{Contains}
-use Rattle.gtd_records.specs.Columns.{Fields}
-use Rattle.gtd_records.specs.declared.vehicles.Vehicles.{Vehicles}
-use Rattle.gtd_records.specs.declared.vehicles.Version.{Version}
+use Rattle.gtd_rows.specs.Columns.{Fields}
+use Rattle.gtd_rows.specs.declared.vehicles.Vehicles.{Vehicles}
+use Rattle.gtd_rows.specs.declared.vehicles.Version.{Version}
 use Rattle.gtd_warnings.specs.Codes.{codes_listed, codes_named}
 
 -- the types that were read name the codes that the row names

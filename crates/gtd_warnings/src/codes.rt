@@ -6,7 +6,7 @@ ghost use Rattle.gtd_warnings.specs.Codes as spec;
 ghost use Rattle.gtd_warnings.specs.Naming.{IsNaming};
 
 use csv::ByteRecord;
-use gtd_records::{Vehicles, Version, four_columns, read_vehicles};
+use gtd_rows::{Vehicles, Version, four_columns, read_vehicles};
 use std::alloc::{AllocError, Global};
 
 /// A vehicle code that one row alone names.

@@ -7,7 +7,7 @@ ghost use Rattle.gtd_core.specs.Parts.{domain_tree};
 ghost use Rattle.gtd_mistakes.specs.declared.rule.Rule.{Rule};
 ghost use Rattle.gtd_mistakes.specs.declared.told.Told.{Told};
 ghost use Rattle.gtd_records.specs.ComputedRow.{IsRow};
-ghost use Rattle.gtd_records.specs.declared.vehicles.Version.{Version};
+ghost use Rattle.gtd_rows.specs.declared.vehicles.Version.{Version};
 ghost use Rattle.gtd_warnings.specs.RowsTold.{AreToldOfRow, AreToldOnce, IsDomainOf, IsToldOfRow};
 
 use crate::file::Asked;
@@ -15,7 +15,8 @@ use crate::known::KnownDomains;
 use csv::ByteRecord;
 use gtd_core::{Domain, Fault};
 use gtd_mistakes::{Rule, Told, first_part, push_told};
-use gtd_records::{Record, RecordFault, four_columns};
+use gtd_records::{Record, RecordFault};
+use gtd_rows::four_columns;
 use gtd_text::read_domain;
 use std::alloc::{AllocError, Global};
 

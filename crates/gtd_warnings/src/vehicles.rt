@@ -1,10 +1,11 @@
 //! Vehicle types for which rows close something.
 
 ghost use Rattle.std.specs.Prelude.{◌↔◌, IsTrue};
-ghost use Rattle.gtd_records.specs.Closing.{Serves};
+ghost use Rattle.gtd_rows.specs.Serving.{Serves};
 ghost use Rattle.gtd_warnings.specs.Vehicles.{IsForSome};
 
-use gtd_records::{Records, Vehicles};
+use gtd_records::Records;
+use gtd_rows::Vehicles;
 
 // Whether a type is one of these.
 fn serves(vehicles: &Vehicles, vehicle: u8) -> bool

@@ -1,6 +1,6 @@
 -- The claims of a run that puts the table of a year, as one.
 use Rattle.std.specs.Prelude.{ℕ, List, Option, Some, None, Result}
-use Rattle.gtd_records.specs.declared.direction.Direction.{Direction}
+use Rattle.gtd_rows.specs.declared.direction.Direction.{Direction}
 use Rattle.gtd_report.specs.Run.{AcceptedFilesArePut, RefusedFilesPutNothing, UnacceptedFilesPutNothing}
 use Rattle.gtd_report.specs.declared.fault.RunFault.{RunFault}
 use Rattle.gtd_year.specs.YearTable.{IsYearTable}

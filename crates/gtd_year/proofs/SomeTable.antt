@@ -3,7 +3,7 @@ use Rattle.std.proofs.Common.{refl, ◌+◌, ℕ, zero, suc, inl, inr, List, [],
 use Rattle.std.specs.Prelude.{ℤ, pos, ◌+ℤ◌, ◌*ℤ◌}
 use Rattle.gtd_records.specs.facts.OpenDecisions.{open_or_not}
 use Rattle.gtd_records.specs.Closing.{IsOpen, Restriction}
-use Rattle.gtd_records.specs.declared.direction.Direction.{Direction}
+use Rattle.gtd_rows.specs.declared.direction.Direction.{Direction}
 use Rattle.gtd_spans.specs.Counting.{IsCount}
 use Rattle.gtd_year.specs.YearTable.{AreDayLines, day_line}
 

@@ -3,7 +3,7 @@ use Rattle.std.proofs.Common.{◌≡◌, arith, sym, subst, inl, inr, ◌<◌, �
 use Rattle.std.specs.Prelude.{ℤ, pos, ◌+ℤ◌, ◌*ℤ◌, slice_index_or}
 use Rattle.std.proofs.lemmas.Int.{ints}
 use Rattle.gtd_records.specs.Closing.{HoldsAt, IsClosed, Restriction}
-use Rattle.gtd_records.specs.declared.direction.Direction.{Direction}
+use Rattle.gtd_rows.specs.declared.direction.Direction.{Direction}
 use Rattle.gtd_records.specs.facts.IndexFacts.{by_le, one_record}
 use Rattle.gtd_spans.specs.Counting.{IsCount}
 use Rattle.gtd_spans.specs.facts.CountFacts.{Among}

@@ -2,7 +2,7 @@
 use Rattle.std.specs.Prelude.{◌<◌, ◌↔◌, ◌≤ℤ◌, ◌<ℤ◌, ◌+ℤ◌, ◌*ℤ◌, ℕ, ℤ, pos, List, [], ◌∷◌, length, get_or}
 use Rattle.gtd_core.specs.Limits.{day_seconds}
 use Rattle.gtd_records.specs.Closing.{IsOpen, Restriction}
-use Rattle.gtd_records.specs.declared.direction.Direction.{Direction}
+use Rattle.gtd_rows.specs.declared.direction.Direction.{Direction}
 use Rattle.gtd_spans.specs.Counting.{IsCount}
 use Rattle.gtd_year.specs.YearTable.{day_line}
 

@@ -9,7 +9,7 @@ use Rattle.std.specs.Prelude.{◌≡◌, ℕ, List, Any, Option, IfSome, Result,
 use Rattle.std.specs.Io.KnownBytes.{Keeps}
 use Rattle.gtd_records.specs.File.{IsFile}
 use Rattle.gtd_records.specs.Closing.{Restriction}
-use Rattle.gtd_records.specs.declared.direction.Direction.{Direction}
+use Rattle.gtd_rows.specs.declared.direction.Direction.{Direction}
 use Rattle.gtd_records.specs.declared.fault.RecordFault.{RecordFault}
 use Rattle.gtd_report.specs.Run.{HadMemoryAndInput, PutsWhole}
 use Rattle.gtd_report.specs.declared.fault.RunFault.{RunFault}

@@ -7,7 +7,7 @@ use Rattle.gtd_calendar.specs.Calendar.{first_day, year_length}
 use Rattle.gtd_calendar.specs.Stamp.{date_text}
 use Rattle.gtd_spans.specs.Counting.{IsCount}
 use Rattle.gtd_records.specs.Closing.{IsOpen, Restriction}
-use Rattle.gtd_records.specs.declared.direction.Direction.{Direction}
+use Rattle.gtd_rows.specs.declared.direction.Direction.{Direction}
 
 -- the number, right-aligned in five places
 abbrev pub right_aligned : ℕ → List ℕ

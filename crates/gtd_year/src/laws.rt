@@ -3,7 +3,7 @@
 ghost use Rattle.std.specs.Prelude.{◌≡◌, All, ℕ, List, length, pos};
 ghost use Rattle.gtd_calendar.specs.Calendar.{year_length};
 ghost use Rattle.gtd_records.specs.Closing.{Restriction};
-ghost use Rattle.gtd_records.specs.declared.direction.Direction.{Direction};
+ghost use Rattle.gtd_rows.specs.declared.direction.Direction.{Direction};
 ghost use Rattle.gtd_year.specs.YearTable.{IsYearTable};
 
 /// Restrictions have exactly one table for each element, direction, vehicle type and year.

@@ -12,8 +12,9 @@ use crate::table::put_days;
 use crate::weekly::is_open_weekly;
 use gtd_calendar::days_of_year;
 use gtd_devices::{Input, Output};
-use gtd_records::{Direction, RecordFault, Records, open_seconds};
+use gtd_records::{RecordFault, Records, open_seconds};
 use gtd_report::{Printer, Report, RunFault, Stop, Subject, finish, run_report};
+use gtd_rows::Direction;
 use gtd_spans::ByDay;
 use std::alloc::Global;
 

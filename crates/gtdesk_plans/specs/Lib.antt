@@ -21,4 +21,4 @@ pub use Rattle.gtd_core.specs.Horizons
 pub use Rattle.gtd_core.specs.Parts
 pub use Rattle.gtd_calendar.specs.Read
 pub use Rattle.gtd_moments.specs.Moments
-pub use Rattle.gtd_records.specs.Columns
+pub use Rattle.gtd_rows.specs.Columns

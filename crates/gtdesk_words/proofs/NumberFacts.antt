@@ -3,7 +3,7 @@ use Rattle.std.proofs.Common.{◌≡◌, ◌∙◌, sym, ap, refl, ◌<◌, ◌�
 use Rattle.std.proofs.Common.{append_assoc}
 use Rattle.std.specs.Prelude.{Option, Some, None, option_map}
 use Rattle.std.proofs.lemmas.List.{at_drop_more, at_drop_all, append-nil}
-use Rattle.gtd_records.specs.Columns.{number_of}
+use Rattle.gtd_rows.specs.Columns.{number_of}
 use Rattle.gtdesk_words.specs.Words.{and_number, numbers_of}
 
 -- numbers in front of those of more parts

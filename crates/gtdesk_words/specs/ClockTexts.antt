@@ -2,7 +2,7 @@
 -- sun are.
 use Rattle.std.specs.Prelude.{◌≡◌, ◌==◌, ◌&&◌, ◌+◌, ◌*◌, ℕ, Option, Some, None, IsSomeAnd, drop, get_or, if◌then◌else◌}
 use Rattle.std.specs.Prelude.{length, nat_le, nat_lt, take}
-use Rattle.gtd_records.specs.Columns.{number_of}
+use Rattle.gtd_rows.specs.Columns.{number_of}
 use Rattle.gtdesk_words.specs.Text.{Text}
 
 -- The minute of the day at these hours and minutes, if there are fewer than 60 minutes, and it is this one at most.

@@ -19,7 +19,7 @@ pub use Rattle.gtd_hours_holidays.specs.KnownYears
 pub use Rattle.gtd_hours.specs.Opening
 pub use Rattle.gtd_hours_grammar.specs.Faults
 pub use Rattle.gtd_hours_text.specs.Standing
-pub use Rattle.gtd_records.specs.Columns
+pub use Rattle.gtd_rows.specs.Columns
 pub use Rattle.gtd_report.specs.Run
 pub use Rattle.gtd_mistakes.specs.RuleNames
 pub use Rattle.gtd_warnings.specs.Days

@@ -9,7 +9,7 @@ use Rattle.gtd_core.specs.declared.horizon.HorizonFault.{HorizonFault}
 use Rattle.gtd_core.specs.declared.second.Sec.{Sec}
 use Rattle.gtd_hours_holidays.specs.declared.known_years.KnownYears.{KnownYears}
 use Rattle.gtd_moments.specs.Moments.{moment_in}
-use Rattle.gtd_records.specs.Columns.{direction_of, number_of}
+use Rattle.gtd_rows.specs.Columns.{direction_of, number_of}
 use Rattle.gtd_text.specs.Reading.{HasNoFault, IsFault}
 use Rattle.gtd_zones.specs.Zones.{is_zone_name}
 use Rattle.gtdesk_words.specs.ClockTexts.{event_in, open_end_in, points_in}

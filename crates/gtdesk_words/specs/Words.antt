@@ -17,7 +17,7 @@ use Rattle.gtd_hours_loose_tokens.specs.declared.token.DayNames.{DayNames}
 use Rattle.gtd_hours_loose_tokens.specs.declared.token.DayNames.TheVariants as names
 use Rattle.gtd_phrases.specs.declared.phrase.Language.{Language}
 use Rattle.gtd_phrases.specs.declared.phrase.Language.TheVariants.{English, French, German}
-use Rattle.gtd_records.specs.Columns.{number_of}
+use Rattle.gtd_rows.specs.Columns.{number_of}
 use Rattle.gtd_report.specs.Run.{IsTableYear, IsVehicleType}
 use Rattle.gtd_text.specs.Reading.{HasNoFault, StandsFor}
 use Rattle.gtd_warnings.specs.Days.{AreDaysFrom}

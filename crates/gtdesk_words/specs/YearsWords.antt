@@ -2,7 +2,7 @@
 use Rattle.std.specs.Prelude.{◌≡◌, ◌==◌, ◌&&◌, ℕ, Option, Some, None, IsSomeAnd, drop, get_or, if◌then◌else◌, length, take}
 use Rattle.gtd_hours_holidays.specs.KnownYears.{AreKnown}
 use Rattle.gtd_hours_holidays.specs.declared.known_years.KnownYears.{KnownYears}
-use Rattle.gtd_records.specs.Columns.{number_of}
+use Rattle.gtd_rows.specs.Columns.{number_of}
 use Rattle.gtdesk_words.specs.Text.{Text}
 
 -- the first and the last year, if both are numbers

@@ -2,7 +2,7 @@
 
 ghost use Rattle.std.specs.Prelude.{◌≡◌, ◌≤◌, IfOk, MatchResult, option_map};
 ghost use Rattle.gtd_hours_moments.specs.Options.{given_or};
-ghost use Rattle.gtd_records.specs.Columns.{number_of};
+ghost use Rattle.gtd_rows.specs.Columns.{number_of};
 ghost use Rattle.gtdesk_words.specs.ClockTexts as spec;
 ghost use Rattle.gtdesk_words.specs.ClockTexts.{IsGivenBy};
 ghost use Rattle.gtdesk_words.specs.ClockWords.{AreClocks, clock_words, event_words, open_end_words, points_words, texts_of};
@@ -10,7 +10,7 @@ ghost use Rattle.gtdesk_words.specs.Readings.{AreStopped};
 
 use crate::refusal::{Reason, WordFault, WordName, WordsRefusal};
 use gtd_hours_moments::Clocks;
-use gtd_records::read_number;
+use gtd_rows::read_number;
 
 /// The words of the options for times that texts of opening hours leave open. Each may be left out.
 #[derive(Clone, Copy)]

@@ -11,7 +11,7 @@ use Rattle.gtd_spans.specs.Normal.{combine}
 use Rattle.gtd_spans.specs.facts.NormalFor.{combine-normal-for, normal-for, normal-of, one-normal-list}
 use Rattle.gtd_spans.specs.facts.SomeList.{some-normal-list}
 use Rattle.gtd_records.specs.Closing.{Closes, IsClosed, IsOpen, Restriction}
-use Rattle.gtd_records.specs.declared.direction.Direction.{Direction}
+use Rattle.gtd_rows.specs.declared.direction.Direction.{Direction}
 use Rattle.gtd_records.specs.facts.OpenDecisions.{closes, open_or_not}
 use Rattle.gtd_report.specs.facts.ElementFacts.{one_by_element}
 use Rattle.gtd_report.specs.facts.SomeElements.{any_first, any_later, any_none, any_split, some_by_element}

@@ -4,7 +4,7 @@ use Rattle.std.proofs.Common.{[], ◌∷◌}
 use Rattle.std.proofs.Common.{map, Bool, true, false}
 use Rattle.gtd_records.specs.Closing.{Restriction}
 use Rattle.gtd_records.specs.ClosingRows.{AreClosingRows}
-use Rattle.gtd_records.specs.declared.direction.Direction.{Direction}
+use Rattle.gtd_rows.specs.declared.direction.Direction.{Direction}
 use Rattle.gtd_report.specs.facts.SomeClosingRows.{one_rows, some_rows}
 use Rattle.gtd_changes.specs.Changes.{change_line, span_of}
 use Rattle.gtd_changes.specs.Rows.{AreEach, IsRowsLine, rows_line}

@@ -2,9 +2,9 @@
 use Rattle.std.proofs.Common.{◌≡◌, ◌≤◌, ◌+◌, inl, inr, ap, arith, ℕ, List, [], ◌∷◌, length}
 use Rattle.std.specs.Prelude.{Ok}
 use Rattle.gtd_records.specs.ComputedFile.{AreRecords, IsTable}
-use Rattle.gtd_records.specs.Columns.{Fields}
+use Rattle.gtd_rows.specs.Columns.{Fields}
 use Rattle.gtd_records.specs.Closing.{Restriction}
-use Rattle.gtd_records.specs.declared.vehicles.Version.{Version}
+use Rattle.gtd_rows.specs.declared.vehicles.Version.{Version}
 
 -- a file has no more records than it may have rows
 pub record_count : (v : Version) (number : ℕ) (rows : List Fields) (found : List Restriction) → AreRecords v number rows found

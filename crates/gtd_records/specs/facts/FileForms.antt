@@ -5,7 +5,7 @@ use Rattle.std.specs.Prelude.{Result, Ok, Err}
 use Rattle.csv.specs.Reading.{default_config, records, strip_bom}
 use Rattle.gtd_core.specs.Limits.{most_rows}
 use Rattle.gtd_records.specs.Closing.{Restriction}
-use Rattle.gtd_records.specs.Columns.{Fields}
+use Rattle.gtd_rows.specs.Columns.{Fields}
 use Rattle.gtd_records.specs.ComputedFile.{AreRecords}
 use Rattle.gtd_records.specs.ComputedFile as computed
 use Rattle.gtd_records.specs.ComputedRow.{IsRow}
@@ -13,7 +13,7 @@ use Rattle.gtd_records.specs.facts.RowForms.{computed_row, row_of}
 use Rattle.gtd_records.specs.File.{AreRows, IsFile, IsTable}
 use Rattle.gtd_records.specs.declared.fault.RecordFault.{RecordFault}
 use Rattle.gtd_records.specs.declared.fault.RecordFault.TheVariants as fault
-use Rattle.gtd_records.specs.declared.vehicles.Version.{Version}
+use Rattle.gtd_rows.specs.declared.vehicles.Version.{Version}
 
 ok_is : (a b : List Restriction) → ◌≡◌ {A = Result (List Restriction) RecordFault} (Ok a) (Ok b) → a ≡ b
 ok_is a b e = cc

@@ -7,9 +7,9 @@ use Rattle.gtd_text.specs.facts.OneMeaning.{one_meaning}
 use Rattle.gtd_text.specs.facts.ReadingLaws.{one_fault}
 use Rattle.gtd_text.specs.Reading.{StandsFor, IsFault}
 use Rattle.gtd_records.specs.facts.FileForms.{computed_file}
-use Rattle.gtd_records.specs.facts.Rising.{one_list}
+use Rattle.gtd_rows.specs.facts.Rising.{one_list}
 use Rattle.gtd_records.specs.File as file
-use Rattle.gtd_records.specs.Columns.{IsSortedSet}
+use Rattle.gtd_rows.specs.Columns.{IsSortedSet}
 use Rattle.gtd_core.specs.Limits.{most_rows}
 use Rattle.gtd_records.specs.ComputedFile.{AreRecords, AreRows, FirstFault, IsFile, AreSoundRows, IsTable}
 use Rattle.gtd_records.specs.File.{header}
@@ -18,7 +18,7 @@ use Rattle.gtd_records.specs.facts.RowNames.{AllBut, Every, Fields, IsDomainColu
 use Rattle.gtd_records.specs.facts.RowNames.{RecordFault, Restriction, TextFault}
 use Rattle.gtd_records.specs.facts.RowNames.{Tree, Vehicles, Version, closed_of, number_of, vehicles_of, with_domain}
 use Rattle.gtd_records.specs.declared.fault.RecordFault.TheVariants as fault
-use Rattle.gtd_records.specs.declared.vehicles.Version.TheVariants as version
+use Rattle.gtd_rows.specs.declared.vehicles.Version.TheVariants as version
 
 one_ascending : (codes xs ys : List ℕ) → IsSortedSet codes xs → IsSortedSet codes ys → xs ≡ ys
 one_ascending codes xs ys p q =

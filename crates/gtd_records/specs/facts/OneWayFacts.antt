@@ -1,10 +1,11 @@
 -- Where each restriction closes both directions, these are open at the same seconds.
 use Rattle.std.proofs.Common.{◌≡◌, ℕ, List}
 use Rattle.std.specs.Prelude.{Any, ℤ}
-use Rattle.gtd_records.specs.Closing.{ClosesDirection, ClosesOneWay, IsClosed, IsOpen, Restriction}
-use Rattle.gtd_records.specs.declared.direction.Closed.{Closed}
-use Rattle.gtd_records.specs.declared.direction.Closed.TheVariants.{One, Both}
-use Rattle.gtd_records.specs.declared.direction.Direction.{Direction}
+use Rattle.gtd_records.specs.Closing.{ClosesOneWay, IsClosed, IsOpen, Restriction}
+use Rattle.gtd_rows.specs.Serving.{ClosesDirection}
+use Rattle.gtd_rows.specs.declared.direction.Closed.{Closed}
+use Rattle.gtd_rows.specs.declared.direction.Closed.TheVariants.{One, Both}
+use Rattle.gtd_rows.specs.declared.direction.Direction.{Direction}
 
 either_way : (closed : Closed) (a b : Direction) → ((closed ≡ Both → ⊥) → ⊥) → ClosesDirection closed a → ClosesDirection closed b
 either_way (One d) a b both closes = absurd (both (λ e. cc))

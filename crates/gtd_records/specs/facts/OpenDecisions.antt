@@ -9,13 +9,14 @@ use Rattle.std.proofs.lemmas.Map.Views.{Contains-from_any, list_any-from_Contain
 use Rattle.gtd_core.specs.Trees.{Tree}
 use Rattle.gtd_eval.specs.facts.TreeDecisions.{in_tree}
 use Rattle.gtd_core.specs.facts.Deciding.{Decided, both, is_true, not}
-use Rattle.gtd_records.specs.Closing.{Closes, ClosesDirection, HoldsAt, IsOpen, Restriction, Serves}
-use Rattle.gtd_records.specs.declared.direction.Closed.{Closed}
-use Rattle.gtd_records.specs.declared.direction.Closed.TheVariants.{One, Both}
-use Rattle.gtd_records.specs.declared.direction.Direction.{Direction}
-use Rattle.gtd_records.specs.declared.direction.Direction.TheVariants.{Positive, Negative}
-use Rattle.gtd_records.specs.declared.vehicles.Vehicles.{Vehicles}
-use Rattle.gtd_records.specs.declared.vehicles.Vehicles.TheVariants.{Every, Only, AllBut}
+use Rattle.gtd_records.specs.Closing.{Closes, HoldsAt, IsOpen, Restriction}
+use Rattle.gtd_rows.specs.Serving.{ClosesDirection, Serves}
+use Rattle.gtd_rows.specs.declared.direction.Closed.{Closed}
+use Rattle.gtd_rows.specs.declared.direction.Closed.TheVariants.{One, Both}
+use Rattle.gtd_rows.specs.declared.direction.Direction.{Direction}
+use Rattle.gtd_rows.specs.declared.direction.Direction.TheVariants.{Positive, Negative}
+use Rattle.gtd_rows.specs.declared.vehicles.Vehicles.{Vehicles}
+use Rattle.gtd_rows.specs.declared.vehicles.Vehicles.TheVariants.{Every, Only, AllBut}
 
 same_number : (a b : ℕ) → Decided (a ≡ b)
 same_number a b = elim (is_true (nat_eq a b)) [ inl h ↦ inl (eqb-true a b h) | inr never ↦ inr (λ h. never (is_same a b h)) ]

@@ -5,10 +5,10 @@ use Rattle.std.proofs.Common.{refl}
 use Rattle.gtd_core.specs.Trees.{Tree}
 use Rattle.gtd_core.specs.facts.TreeCode.{tree_code}
 use Rattle.gtd_records.specs.Closing.{Restriction}
-use Rattle.gtd_records.specs.declared.direction.Closed.{Closed}
-use Rattle.gtd_records.specs.declared.vehicles.Vehicles.{Vehicles}
-use Rattle.gtd_records.specs.contracts.direction.Closed as closed
-use Rattle.gtd_records.specs.contracts.vehicles.Vehicles as vehicles
+use Rattle.gtd_rows.specs.declared.direction.Closed.{Closed}
+use Rattle.gtd_rows.specs.declared.vehicles.Vehicles.{Vehicles}
+use Rattle.gtd_rows.specs.contracts.direction.Closed as closed
+use Rattle.gtd_rows.specs.contracts.vehicles.Vehicles as vehicles
 
 abbrev pub restriction_code : Coded Restriction
 restriction_code =

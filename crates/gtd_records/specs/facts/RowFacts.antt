@@ -8,31 +8,12 @@ use Rattle.gtd_core.specs.declared.fault.Fault.TheVariants.{NoMemory}
 use Rattle.gtd_core.specs.declared.fault.TextFault.{TextFault}
 use Rattle.gtd_text.specs.Faults.{no_memory}
 use Rattle.gtd_text.specs.Reading.{IsFault}
-use Rattle.gtd_records.specs.Columns.{number_of, closed_of, Fields, IsOrdered, AreTypesRead, vehicles_of}
+use Rattle.gtd_rows.specs.Columns.{number_of, closed_of, Fields, IsOrdered, AreTypesRead, vehicles_of}
 use Rattle.gtd_records.specs.ComputedRow.{IsDomainColumn, IsReading, IsRow, with_domain}
-use Rattle.gtd_records.specs.declared.direction.Closed.{Closed}
-use Rattle.gtd_records.specs.declared.vehicles.Vehicles.{Vehicles}
+use Rattle.gtd_rows.specs.declared.direction.Closed.{Closed}
+use Rattle.gtd_rows.specs.declared.vehicles.Vehicles.{Vehicles}
 use Rattle.gtd_records.specs.declared.fault.RecordFault.TheVariants as fault
-use Rattle.gtd_records.specs.declared.vehicles.Version.{Version}
-
--- there is a field at each place below the count
-pub field_there : (fields : Fields) (i : ℕ) → i < length fields → field_at fields i ≢ None
-unfolding field_at
-field_there [] i h = absurd (omega arith)
-field_there (f ∷ fields) zero h = λ e. cc
-field_there (f ∷ fields) (suc i) h = field_there fields i (omega arith)
-
--- four fields
-pub four : (fields : Fields) (a b c d : List ℕ) → length fields ≡ 4
-    → field_at fields 0 ≡ Some a → field_at fields 1 ≡ Some b → field_at fields 2 ≡ Some c → field_at fields 3 ≡ Some d → fields
-    ≡ a ∷ b ∷ c ∷ d ∷ []
-unfolding field_at
-four [] a b c d n e f g h = cc
-four (p ∷ []) a b c d n e f g h = cc
-four (p ∷ q ∷ []) a b c d n e f g h = cc
-four (p ∷ q ∷ r ∷ []) a b c d n e f g h = cc
-four (p ∷ q ∷ r ∷ s ∷ []) a b c d n e f g h = cc
-four (p ∷ q ∷ r ∷ s ∷ t ∷ more) a b c d n e f g h = absurd (omega arith)
+use Rattle.gtd_rows.specs.declared.vehicles.Version.{Version}
 
 -- the last column, if it is not empty
 pub a_column : (text : List ℕ) (tree : Tree) → 0 < length text → IsReading text (Ok tree) → IsDomainColumn text (Ok (Some tree))

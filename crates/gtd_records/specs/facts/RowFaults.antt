@@ -4,15 +4,15 @@ use Rattle.std.specs.Prelude.{MatchOption, Result, Ok, Err}
 use Rattle.gtd_core.specs.Trees.{Tree}
 use Rattle.gtd_core.specs.declared.fault.TextFault.{TextFault}
 use Rattle.gtd_records.specs.Closing.{Restriction}
-use Rattle.gtd_records.specs.Columns.{closed_of, number_of, Fields, IsOrdered, vehicles_of}
+use Rattle.gtd_rows.specs.Columns.{closed_of, number_of, Fields, IsOrdered, vehicles_of}
 use Rattle.gtd_records.specs.ComputedRow.{IsDomainColumn, IsRow, with_domain}
 use Rattle.gtd_records.specs.Faults.{AreRowFaults, row_number, with_fault}
-use Rattle.gtd_records.specs.facts.RowsRead.{IsListing}
-use Rattle.gtd_records.specs.declared.direction.Closed.{Closed}
+use Rattle.gtd_rows.specs.facts.RowsRead.{IsListing}
+use Rattle.gtd_rows.specs.declared.direction.Closed.{Closed}
 use Rattle.gtd_records.specs.declared.fault.RecordFault.{RecordFault}
 use Rattle.gtd_records.specs.declared.fault.RecordFault.TheVariants as fault
-use Rattle.gtd_records.specs.declared.vehicles.Vehicles.{Vehicles}
-use Rattle.gtd_records.specs.declared.vehicles.Version.{Version}
+use Rattle.gtd_rows.specs.declared.vehicles.Vehicles.{Vehicles}
+use Rattle.gtd_rows.specs.declared.vehicles.Version.{Version}
 
 abbrev number_in : Result Restriction RecordFault → ℕ
 number_in (Ok r) = 0

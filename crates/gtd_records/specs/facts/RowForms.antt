@@ -11,19 +11,19 @@ use Rattle.std.proofs.lemmas.Bool.Decides.{nat_tests}
 use Rattle.std.proofs.lemmas.List.Elements.{All-cons, All-head, All-tail}
 use Rattle.std.proofs.lemmas.List.Splits.{slice_split_none}
 use Rattle.gtd_text.specs.facts.Readings.{is_reading, stands_for, faultless}
-use Rattle.gtd_records.specs.Columns.{IsSortedSet, and_code, code_of, codes_of, direction_of, is_word}
-use Rattle.gtd_records.specs.Columns.{is_zero, items_of, named, single, type_of, types_listed}
+use Rattle.gtd_rows.specs.Columns.{IsSortedSet, and_code, code_of, codes_of, direction_of, is_word}
+use Rattle.gtd_rows.specs.Columns.{is_zero, items_of, named, single, type_of, types_listed}
 use Rattle.gtd_records.specs.ComputedRow as computed
 use Rattle.gtd_records.specs.Row.{AreCodes, AreTypes, Column, IsDomain, IsNumber, IsRow, IsWordFor, items}
-use Rattle.gtd_records.specs.declared.direction.Closed.TheVariants.{One, Both}
-use Rattle.gtd_records.specs.declared.direction.Direction.{Direction}
-use Rattle.gtd_records.specs.declared.direction.Direction.TheVariants.{Positive, Negative}
+use Rattle.gtd_rows.specs.declared.direction.Closed.TheVariants.{One, Both}
+use Rattle.gtd_rows.specs.declared.direction.Direction.{Direction}
+use Rattle.gtd_rows.specs.declared.direction.Direction.TheVariants.{Positive, Negative}
 use Rattle.gtd_records.specs.facts.RowNames.{AllBut, Closed, Every, Fields, IsDomainColumn, IsOrdered, Only}
 use Rattle.gtd_records.specs.facts.RowNames.{RecordFault, Restriction}
 use Rattle.gtd_records.specs.facts.RowNames.{TextFault, Tree, Vehicles, Version, closed_of, number_of, vehicles_of, with_domain}
 use Rattle.gtd_records.specs.declared.fault.RecordFault.TheVariants as fault
-use Rattle.gtd_records.specs.declared.vehicles.Version.TheVariants as version
-use Rattle.gtd_records.specs.facts.SortedCodes.{ascending}
+use Rattle.gtd_rows.specs.declared.vehicles.Version.TheVariants as version
+use Rattle.gtd_rows.specs.facts.SortedCodes.{ascending}
 
 -- ---- what a test that was passed says
 

@@ -9,10 +9,10 @@ use Rattle.std.proofs.lemmas.List.{length-map}
 use Rattle.std.proofs.lemmas.Map.Keys.{IsDistinct-from_sorted, sorted_from_strictly_increasing}
 use Rattle.std.proofs.lemmas.Map.Made.{is_member-Decides, length-le_from_is_member}
 use Rattle.gtd_records.specs.facts.IndexFacts.{map_from_any}
-use Rattle.gtd_records.specs.facts.Rising.{one_list}
+use Rattle.gtd_rows.specs.facts.Rising.{one_list}
 use Rattle.gtd_records.specs.Closing.{AreElements, Restriction}
-use Rattle.gtd_records.specs.declared.direction.Direction.{Direction}
-use Rattle.gtd_records.specs.declared.direction.Direction.TheVariants.{Positive, Negative}
+use Rattle.gtd_rows.specs.declared.direction.Direction.{Direction}
+use Rattle.gtd_rows.specs.declared.direction.Direction.TheVariants.{Positive, Negative}
 use Rattle.gtd_report.specs.facts.TextFacts.{Then, texts_as, texts_cut, texts_then}
 use Rattle.gtd_report.specs.Putting.{AreElementLines, AreLinesOf, IsByElement, IsOne, IsOneEach, PutsText}
 use Rattle.gtd_report.specs.declared.output.Progress.{Progress}

@@ -3,10 +3,10 @@ use Rattle.std.proofs.Common.{◌≡◌, sym, refl, subst, arith, ◌<◌, ◌+�
 use Rattle.std.specs.Prelude.{ℤ, slice_index_or}
 use Rattle.std.proofs.lemmas.Map.Keys.{IsStrictlyIncreasing-from_sorted}
 use Rattle.gtd_records.specs.facts.OpenDecisions.{closes}
-use Rattle.gtd_records.specs.facts.Rising.{AllAbove, In, Rises, from_in, one_list, to_in}
+use Rattle.gtd_rows.specs.facts.Rising.{AllAbove, In, Rises, from_in, one_list, to_in}
 use Rattle.gtd_records.specs.Closing.{Closes, Restriction}
 use Rattle.gtd_records.specs.ClosingRows.{AreClosingRows}
-use Rattle.gtd_records.specs.declared.direction.Direction.{Direction}
+use Rattle.gtd_rows.specs.declared.direction.Direction.{Direction}
 use Rattle.gtd_report.specs.facts.SomeElements.{sorted}
 
 module _ (found : List Restriction) (element : ℕ) (direction : Direction) (vehicle : ℕ) (second : ℤ) where

@@ -10,9 +10,9 @@ use Rattle.std.proofs.lemmas.Bool.Decides.{nat_tests}
 use Rattle.std.proofs.lemmas.Map.Keys.{IsStrictlyIncreasing-from_sorted}
 use Rattle.gtd_records.specs.facts.IndexFacts.{by_le}
 use Rattle.gtd_records.specs.Closing.{AreElements, Restriction}
-use Rattle.gtd_records.specs.declared.direction.Direction.{Direction}
-use Rattle.gtd_records.specs.declared.direction.Direction.TheVariants.{Positive, Negative}
-use Rattle.gtd_records.specs.facts.Rising.{AllAbove, In, Rises, from_in, to_in}
+use Rattle.gtd_rows.specs.declared.direction.Direction.{Direction}
+use Rattle.gtd_rows.specs.declared.direction.Direction.TheVariants.{Positive, Negative}
+use Rattle.gtd_rows.specs.facts.Rising.{AllAbove, In, Rises, from_in, to_in}
 use Rattle.gtd_report.specs.Putting.{AreElementLines, AreLinesOf, IsByElement}
 
 -- ---- some of the restrictions

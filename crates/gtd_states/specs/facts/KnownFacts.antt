@@ -5,7 +5,7 @@ use Rattle.std.specs.List.{Contains}
 use Rattle.gtd_core.specs.Seconds.{day_of_second}
 use Rattle.gtd_core.specs.declared.second.Sec.{Sec}
 use Rattle.gtd_records.specs.Closing.{IsOpen, Restriction}
-use Rattle.gtd_records.specs.declared.direction.DirectedElement.{DirectedElement}
+use Rattle.gtd_rows.specs.declared.direction.DirectedElement.{DirectedElement}
 use Rattle.gtd_spans.specs.Change.{IsNextChange, NeverChanges}
 use Rattle.gtd_alike.specs.Alike.{AreOpenAlike}
 use Rattle.gtd_states.specs.Known.{AreRight, IsRightChange}

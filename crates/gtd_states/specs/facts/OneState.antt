@@ -5,7 +5,7 @@ use Rattle.std.specs.Prelude.{ℤ, pos, ◌*ℤ◌, IsTrue, MatchOption}
 use Rattle.std.proofs.lemmas.Int.{ints, by_lt_z}
 use Rattle.gtd_core.specs.Seconds.{day_of_second}
 use Rattle.gtd_records.specs.Closing.{IsOpen, Restriction}
-use Rattle.gtd_records.specs.declared.direction.Direction.{Direction}
+use Rattle.gtd_rows.specs.declared.direction.Direction.{Direction}
 use Rattle.gtd_report.specs.facts.SomeClosingRows.{one_rows}
 use Rattle.gtd_spans.specs.Change.{IsNextChange, NeverChanges}
 use Rattle.gtd_states.specs.States.{IsLookEnd, IsState, State}

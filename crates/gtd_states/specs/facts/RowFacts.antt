@@ -6,7 +6,7 @@ use Rattle.gtd_core.specs.Seconds.{day_of_second, IsHorizonSecond}
 use Rattle.gtd_core.specs.declared.second.Sec.{Sec}
 use Rattle.gtd_records.specs.Closing.{IsOpen, Restriction}
 use Rattle.gtd_records.specs.ClosingRows.{AreClosingRows}
-use Rattle.gtd_records.specs.declared.direction.Direction.{Direction}
+use Rattle.gtd_rows.specs.declared.direction.Direction.{Direction}
 use Rattle.gtd_spans.specs.Change.{IsNextChange, NeverChanges}
 use Rattle.gtd_states.specs.States.{IsLookEnd, IsState, none_closes, second_of}
 use Rattle.gtd_states.specs.facts.DayFacts.{change_shown}

@@ -8,7 +8,7 @@ use Rattle.gtd_core.specs.Seconds.{day_of_second, IsHorizonSecond}
 use Rattle.gtd_records.specs.facts.OpenDecisions.{open_or_not}
 use Rattle.gtd_core.specs.facts.Deciding.{Decided}
 use Rattle.gtd_records.specs.Closing.{IsOpen, Restriction}
-use Rattle.gtd_records.specs.declared.direction.Direction.{Direction}
+use Rattle.gtd_rows.specs.declared.direction.Direction.{Direction}
 use Rattle.gtd_report.specs.facts.SomeClosingRows.{some_rows}
 use Rattle.gtd_spans.specs.Change.{IsNextChange, NeverChanges, SameAt}
 use Rattle.gtd_states.specs.States.{IsLookEnd, IsState, State, none_closes}

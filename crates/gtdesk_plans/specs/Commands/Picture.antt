@@ -2,7 +2,7 @@
 use Rattle.std.specs.Prelude.{◌≡◌, ◌++◌, [], ◌∷◌, List, Option, Some, None, IsSomeAnd, codes, string_bytes}
 use Rattle.clap.specs.Simple.{App}
 use Rattle.clap.specs.Walk.{Row}
-use Rattle.gtd_records.specs.Columns.{direction_of, number_of}
+use Rattle.gtd_rows.specs.Columns.{direction_of, number_of}
 use Rattle.gtdesk_plans.specs.Arguments.{Text, command_of, word_rule}
 use Rattle.gtdesk_words.specs.Readings.{Reading, Word, word_as}
 use Rattle.gtdesk_plans.specs.Rows.{text_of}

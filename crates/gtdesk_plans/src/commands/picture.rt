@@ -13,7 +13,7 @@ use crate::given::text;
 use crate::plans::{OnePlan, Plan};
 use clap::{ArgMatches, Command};
 use gtd_core::Domain;
-use gtd_records::Direction;
+use gtd_rows::Direction;
 use gtdesk_words::{
     WordName, WordsRefusal, direction_of, domain_of, element_of, vehicle_of, year_of,
 };

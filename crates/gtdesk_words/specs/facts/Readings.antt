@@ -16,7 +16,7 @@ use Rattle.gtd_hours_grammar.specs.facts.FirstFault.{hours_or_fault, one_first_f
 use Rattle.gtd_hours_text.specs.Standing.{StandsFor}
 use Rattle.gtd_hours_text.specs.facts.OneMeaning.{one_cost}
 use Rattle.gtd_moments.specs.Moments.{moment_in}
-use Rattle.gtd_records.specs.Columns.{direction_of, number_of}
+use Rattle.gtd_rows.specs.Columns.{direction_of, number_of}
 use Rattle.gtd_text.specs.facts.ReadingLaws.{one_fault}
 use Rattle.gtd_warnings.specs.Days.{AreDaysFrom}
 use Rattle.gtdesk_words.specs.ClockTexts.{event_in, open_end_in, points_in}

@@ -1,8 +1,8 @@
 use Rattle.std.proofs.Common.{◌≡◌, ◌+◌, List, ℕ, Bor, Some, length}
 use Rattle.std.specs.List.{All}
 use Rattle.gtd_core.specs.Seconds.{IsMomentSecond}
-use Rattle.gtd_records.specs.Table.{HasLeft}
-use Rattle.gtd_records.specs.Columns.{Fields}
+use Rattle.gtd_rows.specs.Table.{HasLeft}
+use Rattle.gtd_rows.specs.Columns.{Fields}
 use Rattle.gtd_ask.proofs.ReadFacts.{SoFar}
 use Rattle.gtd_ask.specs.declared.question.Question.{Question}
 use Rattle.gtd_ask.proofs.reader.read_rows.Given as goal

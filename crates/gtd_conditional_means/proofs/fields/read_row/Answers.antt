@@ -1,7 +1,7 @@
 -- The row has three fields, the first of which names the kind.
 use Rattle.std.proofs.Common.{◌∙◌, sym, subst}
 use Rattle.std.specs.Prelude.{IfOk, Option}
-use Rattle.gtd_records.specs.Columns.{Fields}
+use Rattle.gtd_rows.specs.Columns.{Fields}
 use Rattle.gtd_conditional_means.specs.Rows.{IsKindRow, IsRow}
 use Rattle.gtd_conditional_means.specs.declared.meaning.MeansKind.{MeansKind}
 use Rattle.gtd_conditional_means.proofs.fields.read_row.Goals as goal

@@ -1,6 +1,6 @@
 -- The row is one of a mode that speaks of the subject, or adds nothing.
 use Rattle.std.proofs.Common.{subst, sym, Option, OnOk}
-use Rattle.gtd_records.specs.declared.vehicles.Vehicles.{Vehicles}
+use Rattle.gtd_rows.specs.declared.vehicles.Vehicles.{Vehicles}
 use Rattle.gtd_conditional_steps.specs.Sayings.{said_by_types}
 use Rattle.gtd_conditional_steps.specs.Steps.{Adds}
 use Rattle.gtd_conditional_steps.proofs.StepLemmas.{none}

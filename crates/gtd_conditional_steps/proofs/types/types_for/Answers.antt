@@ -1,5 +1,5 @@
 -- One term more.
-use Rattle.gtd_records.specs.Closing.{Serves}
+use Rattle.gtd_rows.specs.Serving.{Serves}
 use Rattle.gtd_conditional_steps.specs.Hours.{EachHoldsFor}
 use Rattle.gtd_conditional_steps.proofs.TermLemmas.{types_more}
 use Rattle.gtd_conditional_steps.proofs.types.types_for.Goals as goal

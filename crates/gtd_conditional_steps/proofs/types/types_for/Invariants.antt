@@ -1,6 +1,6 @@
 -- The types so far, for which the terms that are left hold, are those of the mode for which all terms do.
 use Rattle.std.proofs.Common.{length}
-use Rattle.gtd_records.specs.Closing.{Serves}
+use Rattle.gtd_rows.specs.Serving.{Serves}
 use Rattle.gtd_conditional_steps.specs.Hours.{EachHoldsFor}
 use Rattle.gtd_conditional_steps.proofs.TermLemmas.{TypesLeft}
 use Rattle.gtd_conditional_steps.proofs.types.types_for.Given as goal

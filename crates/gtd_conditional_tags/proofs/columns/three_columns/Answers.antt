@@ -2,7 +2,7 @@
 use Rattle.std.proofs.Common.{◌≡◌, sym, arith, length}
 use Rattle.std.proofs.lemmas.Bool.Decides.{nat_tests}
 use Rattle.csv.specs.Records.{fields_of}
-use Rattle.gtd_records.specs.facts.RowFacts.{field_there}
+use Rattle.gtd_rows.specs.facts.FieldFacts.{field_there}
 use Rattle.gtd_conditional_tags.proofs.RowFacts.{three}
 use Rattle.gtd_conditional_tags.proofs.columns.three_columns.Goals as goal
 

@@ -1,5 +1,5 @@
 use Rattle.std.proofs.Common.{◌≡◌, ◌≤◌, drop, length}
-use Rattle.gtd_records.specs.Columns.{is_word}
+use Rattle.gtd_rows.specs.Columns.{is_word}
 use Rattle.gtd_faults.specs.Hints.{plain}
 use Rattle.gtd_faults.proofs.hint.is_plainly.Given as goal
 

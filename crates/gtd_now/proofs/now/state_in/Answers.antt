@@ -1,7 +1,7 @@
 -- What is known of the element is right, since what is known of all is, and it is of this element.
 use Rattle.std.proofs.Common.{subst}
 use Rattle.std.specs.Prelude.{IfOk}
-use Rattle.gtd_records.specs.declared.direction.DirectedElement.{DirectedElement}
+use Rattle.gtd_rows.specs.declared.direction.DirectedElement.{DirectedElement}
 use Rattle.gtd_states.specs.States.{IsState, state_of}
 use Rattle.gtd_states.specs.facts.KnownFacts.{right_listed}
 use Rattle.gtd_now.proofs.now.state_in.Goals as goal

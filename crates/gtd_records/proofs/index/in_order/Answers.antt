@@ -1,5 +1,5 @@
 -- Sorted and rid of equal neighbours, the numbers are the same ones, each once and in ascending order.
-use Rattle.gtd_records.proofs.SortedSets.{sorted_set}
+use Rattle.gtd_rows.proofs.SortedSets.{sorted_set}
 use Rattle.gtd_records.proofs.index.in_order.Goals as goal
 
 pub returns : goal.returns

@@ -1,6 +1,6 @@
 -- Of one direction and of both it is decided case by case which are among the others.
 use Rattle.std.proofs.Common.{◌≡◌, rules}
-use Rattle.gtd_records.specs.declared.direction.Closed.TheVariants.{One, Both}
+use Rattle.gtd_rows.specs.declared.direction.Closed.TheVariants.{One, Both}
 use Rattle.gtd_repeats.proofs.TextFacts.{both_in_one, one_in_one}
 use Rattle.gtd_repeats.proofs.vehicles.closes_within.Goals as goal
 

@@ -1,6 +1,6 @@
 -- At each turn the other has each of the types passed that the one has.
 use Rattle.std.proofs.Common.{◌≡◌, arith, rules, subst, ℕ}
-use Rattle.gtd_records.specs.Closing.{Serves}
+use Rattle.gtd_rows.specs.Serving.{Serves}
 use Rattle.gtd_repeats.proofs.ListFacts.{by_lt}
 use Rattle.gtd_repeats.proofs.vehicles.serves_within.Goals as goal
 

@@ -1,5 +1,5 @@
 use Rattle.std.proofs.Common.{◌<◌, ℕ}
-use Rattle.gtd_records.specs.Closing.{Serves}
+use Rattle.gtd_rows.specs.Serving.{Serves}
 use Rattle.gtd_repeats.proofs.vehicles.serves_within.Given as goal
 
 -- the types so far

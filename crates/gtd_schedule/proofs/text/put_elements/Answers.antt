@@ -3,7 +3,7 @@ use Rattle.std.proofs.Common.{add-one}
 use Rattle.std.specs.Prelude.{Ok, Err}
 use Rattle.std.proofs.Math.Seq.{drop-cons, drop-length}
 use Rattle.std.proofs.lemmas.Result.{err_from_is_err_and}
-use Rattle.gtd_records.specs.declared.direction.Direction.{Direction}
+use Rattle.gtd_rows.specs.declared.direction.Direction.{Direction}
 use Rattle.gtd_report.specs.facts.ElementFacts.{one_element_lines}
 use Rattle.gtd_report.specs.facts.PutFacts.{puts_none}
 use Rattle.gtd_report.specs.facts.TextFacts.{CarriesText, texts_cut, texts_then}

@@ -2,8 +2,8 @@
 use Rattle.std.proofs.Common.{◌≡◌, ◌∙◌, ◌<◌, ap, refl, sym, subst, arith, ℕ, List, [], ◌∷◌, get_or, length, length-append, None}
 use Rattle.std.specs.Prelude.{slice_index_or}
 use Rattle.gtd_alike.specs.Alike.{AreOpenAlike, asked_at}
-use Rattle.gtd_records.specs.declared.direction.DirectedElement.{DirectedElement}
-use Rattle.gtd_records.specs.declared.direction.Direction.TheVariants.{Positive}
+use Rattle.gtd_rows.specs.declared.direction.DirectedElement.{DirectedElement}
+use Rattle.gtd_rows.specs.declared.direction.Direction.TheVariants.{Positive}
 use Rattle.gtd_records.specs.facts.IndexFacts.{any_default}
 use Rattle.gtd_states.proofs.ListFacts.{each_more}
 use Rattle.gtd_states.specs.Known.{AreRight, IsRightChange}

@@ -1,6 +1,6 @@
 -- What is read from the third of four fields are the vehicle types that it names.
 use Rattle.std.proofs.lemmas.Result.{IfOk-weaker}
-use Rattle.gtd_records.specs.Columns.{vehicles_of}
+use Rattle.gtd_rows.specs.Columns.{vehicles_of}
 use Rattle.gtd_warnings.proofs.CodeFacts.{read_names}
 use Rattle.gtd_warnings.proofs.codes.types_of_row.Goals as goal
 

@@ -1,7 +1,8 @@
 -- No record that was looked at is for the type, or the last one is.
 use Rattle.std.proofs.Common.{sym, ap, subst, arith, refl}
-use Rattle.gtd_records.specs.Closing.{Restriction, Serves}
-use Rattle.gtd_records.specs.declared.vehicles.Vehicles.{Vehicles}
+use Rattle.gtd_records.specs.Closing.{Restriction}
+use Rattle.gtd_rows.specs.Serving.{Serves}
+use Rattle.gtd_rows.specs.declared.vehicles.Vehicles.{Vehicles}
 use Rattle.gtd_warnings.proofs.VehicleFacts.{none_serves, one_serves, serves_more}
 use Rattle.gtd_warnings.proofs.vehicles.is_some_row_for.Goals as goal
 

@@ -1,6 +1,6 @@
 -- Each of the two is closed where the other is.
 use Rattle.std.proofs.Common.{◌≡◌, ◌∙◌, subst}
-use Rattle.gtd_records.specs.declared.direction.DirectedElement.{DirectedElement}
+use Rattle.gtd_rows.specs.declared.direction.DirectedElement.{DirectedElement}
 use Rattle.gtd_records.specs.facts.IndexFacts.{any_default}
 use Rattle.gtd_alike.specs.Alike.{AreOpenAlike, asked_at}
 use Rattle.gtd_alike.proofs.elements.ElementsLikeness.is_alike.Goals as goal

@@ -3,7 +3,7 @@ use Rattle.std.specs.Prelude.{ℤ}
 use Rattle.gtd_core.specs.Seconds.{Interval}
 use Rattle.gtd_records.specs.Closing.{Restriction}
 use Rattle.gtd_records.specs.ClosingRows.{AreClosingRows}
-use Rattle.gtd_records.specs.declared.direction.Direction.{Direction}
+use Rattle.gtd_rows.specs.declared.direction.Direction.{Direction}
 use Rattle.gtd_changes.proofs.ChangeFacts.{on_ok}
 use Rattle.gtd_changes.specs.Changes.{span_of}
 use Rattle.gtd_changes.specs.facts.RowsFacts.{full_line, one_full}

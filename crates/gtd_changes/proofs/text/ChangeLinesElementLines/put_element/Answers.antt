@@ -1,7 +1,7 @@
 -- An element whose rows are the same in both files has no lines in either direction, so none is put.
 use Rattle.std.proofs.Common.{refl, []}
 use Rattle.gtd_report.specs.facts.PutFacts.{puts_none}
-use Rattle.gtd_records.specs.declared.direction.Direction.TheVariants.{Positive, Negative}
+use Rattle.gtd_rows.specs.declared.direction.Direction.TheVariants.{Positive, Negative}
 use Rattle.gtd_changes.proofs.FormFacts.{no_lines}
 use Rattle.gtd_changes.proofs.text.ChangeLinesElementLines.put_element.Goals as goal
 

@@ -3,7 +3,7 @@
 use Rattle.std.proofs.Common.{◌≤◌, ◌++◌, ◌∷◌, [], arith, sym, subst, length, length-append}
 use Rattle.csv.specs.Records.{fields_of}
 use Rattle.gtd_records.specs.ComputedRow.{IsRow}
-use Rattle.gtd_records.specs.declared.vehicles.Version.{Version}
+use Rattle.gtd_rows.specs.declared.vehicles.Version.{Version}
 use Rattle.gtd_lines.specs.Cut.{IsPlace}
 use Rattle.gtd_faults.specs.ListedRows.{AreDoubtedIfAsked}
 use Rattle.gtd_faults.proofs.ListedFacts.{row_of_file, sound_row, still_none}
