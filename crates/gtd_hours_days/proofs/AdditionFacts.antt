@@ -8,9 +8,10 @@ use Rattle.gtd_calendar.specs.facts.DateLemmas.{day_number-in_year}
 use Rattle.gtd_calendar.specs.facts.YearLemmas.{first_day-next}
 use Rattle.gtd_hours_holidays.specs.Easter.{IsEaster}
 use Rattle.gtd_hours_holidays.specs.KnownYears.{IsOfYears}
-use Rattle.gtd_hours_holidays.specs.Table.{IsOfRow, IsOfRows}
+use Rattle.gtd_hours_holidays.specs.Table.{IsHoliday, IsOfRow, IsOfRows}
 use Rattle.gtd_hours_holidays.specs.declared.known_years.KnownYears.{KnownYears}
 use Rattle.gtd_hours_holidays.specs.declared.row.HolidayKind.{HolidayKind}
+use Rattle.gtd_hours_holidays.specs.declared.row.HolidayKind.TheVariants as kind
 use Rattle.gtd_hours_holidays.specs.declared.row.HolidayRow.{HolidayRow}
 use Rattle.gtd_hours_days.specs.Beginning.{IsBegun}
 use Rattle.gtd_hours_days.specs.Listed.{HasAlike, IsEasterSunday, IsKnownHoliday, IsListed, SomeListed}
@@ -498,3 +499,25 @@ between_years years day first last b is begins ends = (
 pub easter_moved : (y : ℕ) (n k d : ℤ) → IsEaster y n → k ≡ n +ℤ d → IsEaster y (k -ℤ d)
 easter_moved y n k d is e =
     let same : k -ℤ d ≡ n = omega (arith, signed_arith, e) in same ∙ is
+
+-- ---- rows that have the same holidays
+
+one_same : (rows others : List HolidayRow) (years : KnownYears)
+    → ((kind : HolidayKind) (n : ℤ) → IsHoliday rows kind n ↔ IsHoliday others kind n) → (x : Listed) (n : ℤ)
+    → IsListed rows years x n ↔ IsListed others years x n
+one_same rows others years same (Public offset) n =
+    let day = same kind.Public (n -ℤ offset.days) in ((λ h. (h.0, day.0 h.1)), (λ h. (h.0, day.1 h.1)))
+one_same rows others years same School n =
+    let day = same kind.School n in ((λ h. (h.0, day.0 h.1)), (λ h. (h.0, day.1 h.1)))
+one_same rows others years same (Easter days) n = ((λ h. h), (λ h. h))
+
+pub some_same : (rows others : List HolidayRow) (years : KnownYears)
+    → ((kind : HolidayKind) (n : ℤ) → IsHoliday rows kind n ↔ IsHoliday others kind n) → (listed : List Listed) (n : ℤ)
+    → SomeListed rows years listed n ↔ SomeListed others years listed n
+some_same rows others years same [] n = ((λ h. h), (λ h. h))
+some_same rows others years same (x ∷ xs) n =
+    let here = one_same rows others years same x n in
+    let later = some_same rows others years same xs n in (
+      (λ h. elim h [ inl a ↦ inl (here.0 a) | inr b ↦ inr (later.0 b) ]),
+      (λ h. elim h [ inl a ↦ inl (here.1 a) | inr b ↦ inr (later.1 b) ]),
+    )

@@ -75,7 +75,7 @@ pub fn listed_days(
     if let Some(uncovered) = first_uncovered(holidays, years, listed) {
         return Err(ListedFault::Uncovered(uncovered));
     }
-    let days = marked(alloc, holidays.rows.as_slice(), years, listed)?;
+    let days = marked(alloc, holidays.merged(), years, listed)?;
     Ok(days)
 }
 

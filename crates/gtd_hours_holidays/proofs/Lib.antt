@@ -4,6 +4,7 @@ pub mod MarkFacts
 pub mod TableFacts
 pub mod RowFacts
 pub mod HolidayFacts
+pub mod MergedFacts
 pub mod EasterFacts
 pub mod RunFacts
 pub mod YearFacts

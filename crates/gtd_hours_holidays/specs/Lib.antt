@@ -5,6 +5,7 @@ pub mod Easter
 pub mod FaultTexts
 pub mod KnownYears
 pub mod Marks
+pub mod Merging
 pub mod Reading
 pub mod Rows
 pub mod Runs

@@ -1,19 +1,20 @@
 //! A table of holidays, and what it says of days.
 
-ghost use Rattle.std.specs.Prelude.{◌≡◌, ◌↔◌, ◌⊎◌, ◌≤◌, ℤ, List, [], length, true, IfOk, IsTrue, MatchOption, OnOk};
+ghost use Rattle.std.specs.Prelude.{◌≡◌, ◌↔◌, ◌⊎◌, ℤ, [], true, IfOk, IsTrue, MatchOption, OnOk};
+ghost use Rattle.std.proofs.Props.{props};
 ghost use Rattle.gtd_core.specs.Limits.{first_calendar_day};
 ghost use Rattle.gtd_calendar.specs.Calendar.{IsCalendarDay};
 ghost use Rattle.gtd_hours_holidays.specs.Covering.{IsAfterRow, IsCoveredUntil};
 ghost use Rattle.gtd_hours_holidays.specs.Days.{AreAll, IsFirstWithout, IsIn};
-ghost use Rattle.gtd_hours_holidays.specs.Table.{AreOutside, IsCovered, IsHoliday, IsInside, IsOfRow, IsOfRows};
-ghost use Rattle.gtd_hours_holidays.specs.declared.row.HolidayRow.{HolidayRow};
-ghost use Rattle.gtd_hours_holidays.specs.Reading.{IsAdded, IsRead};
+ghost use Rattle.gtd_hours_holidays.specs.Merging.{AreSameHolidays, IsInRuns};
+ghost use Rattle.gtd_hours_holidays.specs.Table.{IsCovered, IsHoliday, IsOfRow, IsOfRows};
+ghost use Rattle.gtd_hours_holidays.specs.declared.row.HolidayKind.{HolidayKind};
 
 use crate::days::{Days, FIRST_DAY};
 use crate::fault::HolidaysFault;
 use crate::row::{HolidayKind, HolidayRow};
-use crate::runs::day_after;
-use crate::table::read_rows;
+use crate::run::Run;
+use crate::runs::{day_after, runs_of};
 use std::alloc::{AllocError, Global};
 
 /// Where a row begins.
@@ -31,6 +32,10 @@ pub struct Holidays {
     pub rows: Vec<HolidayRow>,
     // The rows by their first days. Nothing rests on this order: by it, rows that cover days are gone through in few turns.
     starts: Vec<Start>,
+    // The holidays once more, as rows of which no two of a kind have a day in common: however many rows of the table have a day,
+    // who marks the holidays marks it once.
+    merged: Vec<HolidayRow>,
+    ghost same: { AreSameHolidays rows.items merged.items } by { Prim.hlevel props },
 }
 
 /// Why a table of holidays is not read.
@@ -100,8 +105,8 @@ fn add_row(
     Ok(())
 }
 
-// The days of the rows of a kind, of those that cover days or of the others.
-fn days_of(
+/// The days of the rows of a kind, of those that cover days or of the others.
+pub(crate) fn days_of(
     alloc: Global,
     rows: &[HolidayRow],
     kind: HolidayKind,
@@ -114,66 +119,6 @@ fn days_of(
         add_row(&mut days, row, kind, covers)?;
     }
     Ok(days)
-}
-
-// Whether all days of a row are in a set.
-fn has_days(days: &Days, row: &HolidayRow) -> bool
-    ensures { IsTrue result ↔ AreAll (IsIn days.now) row.now.first row.now.last }
-{
-    match days.first_missing(row.first, row.last) {
-        Some(_) => false,
-        None => true,
-    }
-}
-
-// Whether a row's days, if they are holidays, are all covered.
-fn is_inside(public: &Days, school: &Days, row: &HolidayRow) -> bool
-    ensures { (all : List HolidayRow)
-        → ((n : ℤ) → IsIn public.now n ↔ IsOfRows HolidayKind.Public true n all)
-        → ((n : ℤ) → IsIn school.now n ↔ IsOfRows HolidayKind.School true n all)
-        → IsTrue result ↔ IsInside all row.now }
-{
-    if row.covers {
-        return true;
-    }
-    match row.kind {
-        HolidayKind::Public => has_days(public, row),
-        HolidayKind::School => has_days(school, row),
-    }
-}
-
-// Adds the fault of the row with this number, if a holiday of it is not covered.
-fn add_outside(
-    faults: &mut Vec<HolidaysFault>,
-    public: &Days,
-    school: &Days,
-    row: &HolidayRow,
-    number: u32,
-) -> Result<(), AllocError>
-    ensures { (all : List HolidayRow)
-        → ((n : ℤ) → IsIn public.now n ↔ IsOfRows HolidayKind.Public true n all)
-        → ((n : ℤ) → IsIn school.now n ↔ IsOfRows HolidayKind.School true n all)
-        → OnOk result (IsAdded all row.now number faults.old.items faults.new.items) }
-{
-    if !is_inside(public, school, row) {
-        faults.push(HolidaysFault::Outside { row: number })?;
-    }
-    Ok(())
-}
-
-// The faults of rows with holidays that no row covers.
-fn outside_of(alloc: Global, rows: &[HolidayRow]) -> Result<Vec<HolidaysFault>, AllocError>
-    requires { length rows.now ≤ 4096 }
-    ensures { IfOk result (λ faults. AreOutside rows.now 1 rows.now faults.items) }
-{
-    let public = days_of(alloc, rows, HolidayKind::Public, true)?;
-    let school = days_of(alloc, rows, HolidayKind::School, true)?;
-    let mut faults = Vec::new(alloc);
-    for place in 0..rows.len() {
-        let number = place as u32 + 1;
-        add_outside(&mut faults, &public, &school, &rows[place], number)?;
-    }
-    Ok(faults)
 }
 
 // The rows by their first days.
@@ -189,28 +134,50 @@ fn starts_of(alloc: Global, rows: &[HolidayRow]) -> Result<Vec<Start>, AllocErro
     Ok(starts)
 }
 
-/// The table of holidays that a file's bytes are, or all its faults.
-///
-/// `TooLarge` and `Header` come alone. Otherwise each row that is at fault has its first one from the left, `FieldCount`,
-/// `First`, `Last` or `Kind`, in the order of the rows, and `TooManyRows` comes after those of the first 4,096 rows. If there
-/// are none of these, each row with a holiday that no row covers has `Outside`. `NoMemory` is answered only if memory was
-/// refused.
-pub fn read_holidays(alloc: Global, bytes: &[u8]) -> Result<Holidays, Unread>
-    ensures table { IsRead bytes.now result }
+// Puts runs of days as holidays of a kind after other rows.
+fn put_runs(
+    merged: &mut Vec<HolidayRow>,
+    kind: HolidayKind,
+    runs: Vec<Run>,
+) -> Result<(), AllocError>
+    ensures { OnOk result ((other : HolidayKind) (n : ℤ) → IsHoliday merged.new.items other n
+        ↔ (IsHoliday merged.old.items other n ⊎ ((kind ≡ other) × IsInRuns runs.items n))) }
 {
-    let found = read_rows(alloc, bytes)?;
-    if !found.faults.is_empty() {
-        return Err(Unread::Faults(found.faults));
+    for run in runs {
+        merged.push(HolidayRow {
+            first: run.first,
+            last: run.last,
+            kind,
+            covers: false,
+        })?;
     }
-    let outside = outside_of(alloc, found.rows.as_slice())?;
-    if !outside.is_empty() {
-        return Err(Unread::Faults(outside));
-    }
-    let starts = starts_of(alloc, found.rows.as_slice())?;
-    Ok(Holidays {
-        rows: found.rows,
-        starts,
-    })
+    Ok(())
+}
+
+// Puts the holidays of a kind after other rows.
+fn put_kind(
+    alloc: Global,
+    merged: &mut Vec<HolidayRow>,
+    rows: &[HolidayRow],
+    kind: HolidayKind,
+) -> Result<(), AllocError>
+    ensures { OnOk result ((other : HolidayKind) (n : ℤ) → IsHoliday merged.new.items other n
+        ↔ (IsHoliday merged.old.items other n ⊎ ((kind ≡ other) × IsHoliday rows.now kind n))) }
+{
+    let days = days_of(alloc, rows, kind, false)?;
+    let runs = runs_of(alloc, &days)?;
+    put_runs(merged, kind, runs)?;
+    Ok(())
+}
+
+// The holidays of rows, as rows of which no two of a kind have a day in common.
+fn merged_of(alloc: Global, rows: &[HolidayRow]) -> Result<Vec<HolidayRow>, AllocError>
+    ensures { IfOk result (λ merged. (kind : HolidayKind) (n : ℤ) → IsHoliday merged.items kind n ↔ IsHoliday rows.now kind n) }
+{
+    let mut merged = Vec::new(alloc);
+    put_kind(alloc, &mut merged, rows, HolidayKind::Public)?;
+    put_kind(alloc, &mut merged, rows, HolidayKind::School)?;
+    Ok(merged)
 }
 
 // The day after the last one of a row, if it covers the day reached; otherwise that day.
@@ -266,7 +233,29 @@ impl Holidays {
         Holidays {
             rows: Vec::new(alloc),
             starts: Vec::new(alloc),
+            merged: Vec::new(alloc),
         }
+    }
+
+    // The table of these rows. `AllocError` is answered only if memory was refused.
+    pub(crate) fn new(alloc: Global, rows: Vec<HolidayRow>) -> Result<Holidays, AllocError>
+        ensures rows { IfOk result (λ holidays. holidays.rows.items ≡ rows.items) }
+    {
+        let starts = starts_of(alloc, rows.as_slice())?;
+        let merged = merged_of(alloc, rows.as_slice())?;
+        Ok(Holidays {
+            rows,
+            starts,
+            merged,
+        })
+    }
+
+    /// The holidays of the table, as rows of which no two of a kind have a day in common: at most as many as the table has days.
+    /// Takes no memory.
+    pub fn merged(&self) -> &[HolidayRow]
+        ensures same { (kind : HolidayKind) (n : ℤ) → IsHoliday result.now kind n ↔ IsHoliday self.now.rows.items kind n }
+    {
+        self.merged.as_slice()
     }
 
     /// Whether a day is a holiday of this kind. Takes no memory.

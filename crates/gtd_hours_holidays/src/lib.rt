@@ -7,8 +7,9 @@
 pub use computus::easter;
 pub use days::Days;
 pub use fault::{HolidaysFault, HolidaysFaultText};
-pub use holidays::{Holidays, Unread, read_holidays};
+pub use holidays::{Holidays, Unread};
 pub use known_years::KnownYears;
+pub use reader::read_holidays;
 pub use row::{HolidayKind, HolidayRow};
 pub use run::Run;
 pub use runs::runs_of;
@@ -21,6 +22,7 @@ mod fields;
 mod holidays;
 mod known_years;
 pub mod laws;
+mod reader;
 mod row;
 mod run;
 mod runs;

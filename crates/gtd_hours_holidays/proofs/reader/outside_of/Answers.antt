@@ -3,7 +3,7 @@ use Rattle.std.proofs.Common.{◌≡◌, ◌∙◌, ◌+◌, ◌++◌, ◌∷◌
 use Rattle.std.proofs.lemmas.List.{length-take-le, take_more}
 use Rattle.gtd_hours_holidays.specs.declared.row.HolidayRow.{HolidayRow}
 use Rattle.gtd_hours_holidays.proofs.HolidayFacts.{added_outside}
-use Rattle.gtd_hours_holidays.proofs.holidays.outside_of.Goals as goal
+use Rattle.gtd_hours_holidays.proofs.reader.outside_of.Goals as goal
 
 pub loop-place-preserved : goal.loop-place-preserved
 loop-place-preserved c =
