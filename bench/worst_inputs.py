@@ -355,6 +355,18 @@ def states(folder):
                schedule(folder.file("one_way", text), DAY))
 
 
+def changes(folder):
+    """Files of which the next change is asked, that comes late or never, though parts change all the time."""
+    halves = "[(s0){s30}+(s30){s30}]*[(M2d29){d1}]*[(M3d1){d1}]"
+    late = "[(s0){s20}+(s20){s40}]*[(M2d29){d1}]*[(M3d1){d1}]"
+    for name, rows in (("halves of minutes of a 29 February that is 1 March", [halves]), ("two rows of such", [halves, late])):
+        yield desk(name, ["now", folder.rows(f"changes_{len(rows)}", rows), MOMENT, "11"])
+    hours = [f"[(m0){{m30}}+(m30){{m30}}]*[(M2d29h{n % 24}m{n // 24}){{h1}}]*[(M3d1){{d1}}]" for n in range(1_000)]
+    days = len(hours) * DAYS[LONGEST]
+    yield desk("1,000 elements of half hours of such a day",
+               ["now", folder.elements("changes_hours", hours), MOMENT, "11"], days, "days")
+
+
 def covered(folder):
     """Files of one element whose rows leave no second of a period open."""
     minute = [f"(s{n}){{s1}}" for n in range(60)]
@@ -541,6 +553,6 @@ def cases(path):
     folder = Folder(path)
     yield from domains()
     yield from words()
-    for group in (one_row, one_element, cursors, many_elements, states, covered, pictures, rows_in_order, one_field,
+    for group in (one_row, one_element, cursors, many_elements, states, covered, changes, pictures, rows_in_order, one_field,
                   texts_twice, vehicle_lists, tags_of_ways, hours_rows, hours_texts):
         yield from group(folder)

@@ -23,3 +23,4 @@ pub mod AlikeFacts
 pub mod AnyOrder
 pub mod WeekFacts
 pub mod AlwaysFacts
+pub mod SoleFacts

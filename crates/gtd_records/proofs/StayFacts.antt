@@ -105,16 +105,20 @@ module _ (rows : List Restriction) (part : List RowPlace) (element : ℕ) (direc
         }
 
     -- a restriction that concerns nothing asked for, or that is repeated
+    pub same_seconds : AreElementPlaces rows element part
+        → (Concerns direction vehicle r → IsRepeated rows part direction vehicle i r.domain) → (t : ℤ)
+        → ClosesSoFar i t ↔ ClosesSoFar (i + 1) t
+    same_seconds placed again t = (
+      more t,
+      (λ c. last_one {P = ClosesSoFar i t} t c (λ old. old)
+          (λ h. earlier_one placed t (again h.concerns) h.holds)),
+    )
+
     pub skipped : (stay : Stay) → AreElementPlaces rows element part
         → (Concerns direction vehicle r → IsRepeated rows part direction vehicle i r.domain) → IsStay (ClosesSoFar i) s last stay
         → IsStay (ClosesSoFar (i + 1)) s last stay
     skipped stay placed again is =
-        same_set (ClosesSoFar i) (ClosesSoFar (i + 1)) s last stay
-        (λ t. (
-          more t,
-          (λ c. last_one {P = ClosesSoFar i t} t c (λ old. old)
-              (λ h. earlier_one placed t (again h.concerns) h.holds)),
-        )) is
+        same_set (ClosesSoFar i) (ClosesSoFar (i + 1)) s last stay (same_seconds placed again) is
 
     here_too : (t : ℤ) → Closes element direction vehicle t r → ClosesSoFar (i + 1) t
     here_too t closes = record {
@@ -129,40 +133,46 @@ module _ (rows : List Restriction) (part : List RowPlace) (element : ℕ) (direc
     }
 
     -- one that does
+    pub more_seconds : r.element ≡ element → Concerns direction vehicle r → (t : ℤ)
+        → (ClosesSoFar i t ⊎ HoldsAt r.domain t) ↔ ClosesSoFar (i + 1) t
+    more_seconds names concerns t = (
+      (λ h. elim h [
+        | inl c ↦ more t c
+        | inr q ↦ here_too t (record { names = names; concerns = concerns; holds = q })
+      ]),
+      (λ c. last_one {P = ClosesSoFar i t ⊎ HoldsAt r.domain t} t c (λ old. inl old) (λ h. inr h.holds)),
+    )
+
     pub taken : (old own stay : Stay) → r.element ≡ element → Concerns direction vehicle r → IsStay (ClosesSoFar i) s last old
         → IsStay (HoldsAt r.domain) s last own → IsJoined Union old own stay → IsStay (ClosesSoFar (i + 1)) s last stay
     taken old own stay names concerns is also joined =
-        same_set (λ t. ClosesSoFar i t ⊎ HoldsAt r.domain t) (ClosesSoFar (i + 1)) s last stay
-        (λ t. (
-          (λ h. elim h [
-            | inl c ↦ more t c
-            | inr q ↦ here_too t (record { names = names; concerns = concerns; holds = q })
-          ]),
-          (λ c. last_one {P = ClosesSoFar i t ⊎ HoldsAt r.domain t} t c (λ old. inl old) (λ h. inr h.holds)),
-        ))
+        same_set (λ t. ClosesSoFar i t ⊎ HoldsAt r.domain t) (ClosesSoFar (i + 1)) s last stay (more_seconds names concerns)
         (joined_stays Union (ClosesSoFar i) (HoldsAt r.domain) s last old own stay is also joined)
 
   -- where the first places have all restrictions of the element, these close it
+  pub all_seconds : (stop : ℕ) → AllSeen rows part element stop → (t : ℤ)
+      → ClosesSoFar stop t ↔ IsClosed rows element direction vehicle t
+  all_seconds stop placed t = (
+    (λ c. (c.place.row, c.row, c.within, c.stands, c.closes)),
+    (λ a.
+        let p = placed a.0 a.1 a.2 a.3 a.4.names in
+        record {
+          before = p.0;
+          place = place_of a.1 a.0;
+          row = a.1;
+          early = p.1;
+          at = p.2;
+          within = a.2;
+          stands = a.3;
+          closes = a.4;
+        }),
+  )
+
   pub all_stay : (stop : ℕ) (s last : ℤ) (stay : Stay) → IsStay (ClosesSoFar stop) s last stay
       → AllSeen rows part element stop
       → IsStay (IsClosed rows element direction vehicle) s last stay
   all_stay stop s last stay is placed =
-      same_set (ClosesSoFar stop) (IsClosed rows element direction vehicle) s last stay
-      (λ t. (
-        (λ c. (c.place.row, c.row, c.within, c.stands, c.closes)),
-        (λ a.
-            let p = placed a.0 a.1 a.2 a.3 a.4.names in
-            record {
-              before = p.0;
-              place = place_of a.1 a.0;
-              row = a.1;
-              early = p.1;
-              at = p.2;
-              within = a.2;
-              stands = a.3;
-              closes = a.4;
-            }),
-      )) is
+      same_set (ClosesSoFar stop) (IsClosed rows element direction vehicle) s last stay (all_seconds stop placed) is
 
 -- two that differ differ from outside too
 pub differ_outside : (a b : Bool) → (a ≡ b → ⊥) → not a ≡ not b → ⊥

@@ -1,5 +1,5 @@
 -- How the restrictions of a file are found by their element.
-use Rattle.std.specs.Prelude.{◌≡◌, ◌<◌, ◌≤◌, ℕ, ℤ, List, Option, length, slice_index_or}
+use Rattle.std.specs.Prelude.{◌≡◌, ◌↔◌, ◌<◌, ◌≤◌, ℕ, ℤ, List, Option, length, slice_index_or}
 use Rattle.std.specs.List.{All, Contains}
 use Rattle.std.specs.List.Sorted.{IsNonDecreasingBy}
 use Rattle.gtd_core.specs.Limits.{most_rows}
@@ -7,7 +7,7 @@ use Rattle.gtd_core.specs.Trees.{Tree}
 use Rattle.gtd_core.specs.Seconds.{Within}
 use Rattle.gtd_core.specs.Whole.{whole}
 use Rattle.gtd_core.specs.declared.horizon.Horizon.{Horizon}
-use Rattle.gtd_records.specs.Closing.{AreElements, Concerns, IsClosed, IsOpen, Restriction}
+use Rattle.gtd_records.specs.Closing.{AreElements, Concerns, HoldsAt, IsClosed, IsOpen, Restriction}
 use Rattle.gtd_records.specs.RowPlaces.{place_of}
 use Rattle.gtd_rows.specs.declared.direction.Direction.{Direction}
 use Rattle.gtd_places.specs.declared.place.RowPlace.{RowPlace}
@@ -68,3 +68,9 @@ pub record AreClosing (rows : List Restriction) (element : ℕ) (direction : Dir
     (set : ℤ → Type 0) : Type 0 where
   pub sound : (t : ℤ) → set t → IsClosed rows element direction vehicle t
   pub complete : (t : ℤ) → Within (whole horizon) t → (set t → ⊥) → IsOpen rows element direction vehicle t
+
+-- the restrictions close the element at the seconds of this row's restriction, and at no others
+pub record IsSoleRow (rows : List Restriction) (element : ℕ) (direction : Direction) (vehicle row : ℕ) : Type 0 where
+  pub within : row < length rows
+  pub closes : (r : Restriction) → r ≡ slice_index_or rows row r → (t : ℤ)
+      → IsClosed rows element direction vehicle t ↔ HoldsAt r.domain t

@@ -11,7 +11,7 @@ ghost use Rattle.gtd_records.specs.Closing.{AreElements, Closes, ClosesOneWay, C
 ghost use Rattle.gtd_eval.specs.Cursors.{SomeHolds};
 ghost use Rattle.gtd_records.specs.ClosingCursors.{AreAtStart, HasSecond, IsClosedRepeating, RepeatIn, nodes_with_cursors};
 ghost use Rattle.gtd_records.specs.ClosingRows.{AreClosingRows};
-ghost use Rattle.gtd_records.specs.Index.{AreClosing, AreElementPlaces, ArePlaces, ArePlacesWithin, IsRepeated};
+ghost use Rattle.gtd_records.specs.Index.{AreClosing, AreElementPlaces, ArePlaces, ArePlacesWithin, IsRepeated, IsSoleRow};
 ghost use Rattle.gtd_rows.specs.Columns.{IsSortedSet};
 ghost use Rattle.gtd_records.specs.RowPlaces.{place_of};
 
@@ -277,6 +277,25 @@ impl Records {
             }
         }
         stay
+    }
+
+    // The row of a record at whose seconds alone the element is closed in the direction for the vehicle type, if there is one: it
+    // is the only such record, or the others have its domain. Takes no memory.
+    pub(crate) fn sole_row(&self, element: u64, direction: Direction, vehicle: u8) -> Option<usize>
+        ensures sole { IfSome result (IsSoleRow self.now element direction vehicle) }
+    {
+        let mut sole = None;
+        let places = self.places_of_element(element);
+        for (at, place) in places.iter().enumerate() {
+            let row = place.row as usize;
+            if self.adds(places, at, &self.rows[row], direction, vehicle) {
+                if sole.is_some() {
+                    return None;
+                }
+                sole = Some(row);
+            }
+        }
+        sole
     }
 
     // The period after which each record that closes the element in the direction for the vehicle type repeats, if all do.

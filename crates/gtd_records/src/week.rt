@@ -40,8 +40,8 @@ fn begins_daily(basic: &Basic) -> bool {
     parts.hour.is_some() || (parts.minute.is_none() && parts.second.is_none())
 }
 
-// Whether each basic domain of an expression begins at most once a day.
-fn all_begin_daily(expr: &Expr) -> bool {
+/// Whether each basic domain of an expression begins at most once a day.
+pub(crate) fn all_begin_daily(expr: &Expr) -> bool {
     match expr {
         Expr::Leaf(basic) => begins_daily(basic),
         Expr::Join(_, left, right) => all_begin_daily(left) && all_begin_daily(right),

@@ -6,7 +6,7 @@ use Rattle.gtd_core.specs.Whole.{whole}
 use Rattle.gtd_eval.specs.facts.StayChanges.{changes_at, next_stays, stays_outside, tells_outside}
 use Rattle.gtd_records.specs.Closing.{IsClosed, IsOpen}
 use Rattle.gtd_records.proofs.StayFacts.{differ_outside}
-use Rattle.gtd_records.proofs.change.next_change.Goals as goal
+use Rattle.gtd_records.proofs.change.change_by_stays.Goals as goal
 
 pub loop-init : goal.loop-init
 loop-init c =
