@@ -17,6 +17,7 @@ True
 :mod:`gtd.ical`.
 """
 
+from gtd._bins import closed_spans, open_seconds
 from gtd._desk import Mended, conditions, faults, mend
 from gtd._diff import diff
 from gtd._domain import Apart, Change, Domain, canon, check, contains, next_change, next_change_ever
@@ -44,6 +45,7 @@ __all__ = [
     "__version__",
     "canon",
     "check",
+    "closed_spans",
     "conditions",
     "contains",
     "diff",
@@ -54,6 +56,7 @@ __all__ = [
     "migrate",
     "next_change",
     "next_change_ever",
+    "open_seconds",
     "program",
     "same",
     "schedule",

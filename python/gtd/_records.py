@@ -62,12 +62,7 @@ def schedule(records: RecordsLike, first: Day, until: Day, vehicle: int) -> pand
     if not is_large(records, given):
         return _scheduled(given, *words)
     asked(*words)  # the days and the type are looked at before the records
-    rows = sort_rows(migrated(given))
-    cuts = cut(count(rows).set_index("element"))
-    if isinstance(cuts, Beyond):
-        raise Fault(cuts.kind, note=cuts.note)
-    parts = [_scheduled(HEADER + text, *words) for text in texts_of(rows, cuts.firsts)]
-    return pandas.concat(parts, ignore_index=True)
+    return pandas.concat([_scheduled(text, *words) for text in parts_of(records, given)], ignore_index=True)
 
 
 def year(records: RecordsLike, element: int, direction: str, vehicle: int, year: int) -> pandas.Series:
@@ -137,6 +132,17 @@ def migrate(records: RecordsLike) -> pandas.DataFrame:
         printed = _run(given, "migrate", "/dev/stdin")
     types = {"element": "int64", "direction": _CLOSES, "vehicles": "str", "domain": "str"}
     return pandas.read_csv(io.BytesIO(printed), dtype=types, keep_default_na=False)
+
+
+def parts_of(records: RecordsLike, given: bytes) -> List[bytes]:
+    """The bytes of records as files: one, or of a frame that no file can hold one for each of ascending ranges of elements."""
+    if not is_large(records, given):
+        return [given]
+    rows = sort_rows(migrated(given))
+    cuts = cut(count(rows).set_index("element"))
+    if isinstance(cuts, Beyond):
+        raise Fault(cuts.kind, note=cuts.note)
+    return [HEADER + text for text in texts_of(rows, cuts.firsts)]
 
 
 def migrated(given: bytes) -> List[bytes]:

@@ -17,6 +17,7 @@ from tests.make_records import rows
 
 TOP = Path(gtd.__file__).parents[2]
 PAGES = [TOP / "docs" / "PYTHON.md", TOP / "docs" / "COUNTRY.md", TOP / "python" / "README.md"]
+PAGES_OF_PYTHON = [*PAGES, TOP / "docs" / "CLOSED_ROADS.md"]
 
 
 @pytest.fixture
@@ -24,7 +25,7 @@ def folder(tmp_path, monkeypatch):
     """The examples of the repository, and a small country."""
     if not PAGES[0].exists():
         pytest.skip("the documents are not beside the package")
-    for path in (TOP / "examples").glob("*.csv"):
+    for path in [*(TOP / "examples").glob("*.csv"), TOP / "examples" / "town.geojson"]:
         shutil.copy(path, tmp_path)
     (tmp_path / "north.csv").write_text("".join(rows(300, 1)))
     (tmp_path / "south.csv").write_text("".join(rows(200, 2)))
@@ -35,7 +36,7 @@ def folder(tmp_path, monkeypatch):
     return tmp_path
 
 
-@pytest.mark.parametrize("page", PAGES, ids=lambda page: f"{page.parent.name}-{page.name}")
+@pytest.mark.parametrize("page", PAGES_OF_PYTHON, ids=lambda page: f"{page.parent.name}-{page.name}")
 def test_python_of_a_page(folder, page):
     blocks = re.findall(r"^```python\n(.*?)^```", page.read_text(), re.DOTALL | re.MULTILINE)
     assert blocks or page.name == "COUNTRY.md"
