@@ -124,7 +124,7 @@ start exchange tests/test_datex.py tests/test_ical.py tests/test_exchange_rows.p
 exchange=$!
 start package tests/test_domain.py tests/test_records.py tests/test_series.py tests/test_roads.py tests/test_blocks.py \
     tests/test_asked_domain.py tests/test_asked_records.py tests/test_planner.py tests/test_same.py tests/test_install.py \
-    tests/test_desk.py tests/test_bins.py
+    tests/test_desk.py tests/test_bins.py tests/test_hours.py
 package=$!
 (cd "$top/python" && "$python" -m mypy --strict --cache-dir "$room/types") > "$room/mypy" 2>&1
 succeeds 'mypy --strict' grep -q '^Success' "$room/mypy"

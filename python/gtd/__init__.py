@@ -22,6 +22,7 @@ from gtd._desk import Mended, conditions, faults, mend
 from gtd._diff import diff
 from gtd._domain import Apart, Change, Domain, canon, check, contains, next_change, next_change_ever
 from gtd._fault import Fault
+from gtd._hours import domains_of_hours
 from gtd._library import LibraryNotFound, library
 from gtd._program import ProgramNotFound, program
 from gtd._record_set import ElementChange, Records
@@ -49,6 +50,7 @@ __all__ = [
     "conditions",
     "contains",
     "diff",
+    "domains_of_hours",
     "faults",
     "first_difference",
     "library",

@@ -172,7 +172,7 @@ def conditions(
     try:
         printed = run_desk("conditions", *words, "--", "-", os.path.abspath(means), given=given)
     except RuntimeError as error:
-        raise _of_tags(error) from None
+        raise first_fault(error) from None
     types = {"element": "int64", "direction": pandas.CategoricalDtype(["positive", "negative", "both"]), "vehicles": "str"}
     return pandas.read_csv(io.BytesIO(printed), dtype={**types, "domain": "str"}, keep_default_na=False)
 
@@ -261,10 +261,11 @@ def _of_word(error: RuntimeError) -> Exception:
     return ValueError(word["said"]) if word else error
 
 
-def _of_tags(error: RuntimeError) -> Exception:
-    """The first fault that ``gtdesk conditions`` lists of the tags, or that it has of a table."""
+def first_fault(error: RuntimeError) -> Exception:
+    """The first fault that ``gtdesk conditions`` or ``gtdesk records`` lists of what it reads, or that it has of a table."""
     said = _said(error)
     listed = _listed(said)
+    listed = listed[listed["warning"].isna()].reset_index(drop=True)
     if len(listed):
         kind, text, expected = listed.loc[0, ["kind", "text", "expected"]]
         line, row, place = (None if pandas.isna(one) else int(one) for one in listed.loc[0, ["line", "row", "place"]])

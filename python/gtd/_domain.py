@@ -3,7 +3,7 @@
 from __future__ import annotations
 
 from datetime import date, datetime
-from typing import Any, Callable, NamedTuple, Optional, Tuple, Type, Union, overload
+from typing import Any, Callable, Mapping, NamedTuple, Optional, Tuple, Type, Union, overload
 
 import numpy
 import pandas
@@ -12,10 +12,12 @@ from numpy.typing import NDArray
 from gtd import _by_program, _in_process
 from gtd._by_program import DomainByProgram
 from gtd._fault import Fault, in_domain
+from gtd._hours import domains_of_hours
 from gtd._in_process import DomainInProcess
 from gtd._library import load
 from gtd._moments import END_OF_WORDS, Day, Moment, Moments, Seconds
 from gtd._moments import day, days, is_column, moment_at, search, second_of, seconds_of, stamp
+from gtd._reading import Path
 
 _EPOCH = datetime(1970, 1, 1).toordinal()
 _FIRST_YEAR, _LAST_YEAR = 1901, 2199  # of pictures
@@ -81,8 +83,15 @@ class Domain:
             self._at, self._holds = self._engine.at, self._engine.call_holds
 
     @classmethod
-    def of_hours(cls, hours: str) -> Domain:
+    def of_hours(cls, hours: str, *, options: Optional[Mapping[str, Path]] = None, strict: bool = True) -> Domain:
         """The domain with exactly the seconds at which opening hours of OpenStreetMap are open.
+
+        Parameters
+        ----------
+        options
+            What the text leaves open, such as holidays, as for :func:`gtd.domains_of_hours`.
+        strict : bool
+            Whether a text that is written loosely, such as ``Mo 8:00-9:00``, is a fault.
 
         Raises
         ------
@@ -99,6 +108,8 @@ class Domain:
         """
         if not isinstance(hours, str):
             raise TypeError(f"opening hours are a str, not {type(hours).__name__}")
+        if hours and (options or not strict):
+            return cls(_of_hours(hours, options, strict))
         library = load("domain_from_hours", "domain_canon", "text_bytes")
         try:
             text = _by_program.domain_of_hours(hours) if library is None else _in_process.domain_of_hours(library, hours)
@@ -351,3 +362,14 @@ def _read_change(line: str) -> Optional[Change]:
         return None
     moment, state = line.split(" ")
     return Change(datetime.fromisoformat(moment), state == "in")
+
+
+def _of_hours(hours: str, options: Optional[Mapping[str, Path]], strict: bool) -> str:
+    """The text of the domain of opening hours, with what the text leaves open."""
+    try:
+        text: str = domains_of_hours([hours], options=options, strict=strict).iloc[0]
+    except Fault as fault:
+        if fault.row is None or fault.file is not None:
+            raise
+        raise in_domain(Fault(fault.kind, place=fault.place), hours, note=fault.note) from None
+    return text
