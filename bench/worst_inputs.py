@@ -158,6 +158,35 @@ def taken_on_few_days():
         yield Case(f"ever, {name} of a 29 February that is 1 March", ["ever", never, MOMENT])
 
 
+def compared():
+    """Pairs of domains that are the same, or nearly so, for 400 years."""
+    second, never, often = "(s0){s1}", "(M2d30){d1}", "(M5d1){d1}"
+    seconds = joined([f"(s{n}){{s1}}" for n in range(60)])
+    minutes = joined([f"(m{n}){{m1}}" for n in range(60)])
+    dates = joined([f"(M{1 + n % 12}d{1 + n % 28}h{n % 24}){{h2}}" for n in range(40)])
+    for name, text, taken in (
+        ("each minute's first second", second, ""),
+        ("each minute's first second less a date", second, often),
+        ("each minute's first second less one of each month", second, "(d1){d1}"),
+        ("60 seconds of each minute", seconds, ""),
+        ("60 seconds of each minute less a date", seconds, often),
+        ("60 minutes of each hour", minutes, ""),
+        ("60 minutes of each hour less a date", minutes, often),
+        ("40 dates", dates, ""),
+        ("half hours in May", "(M5m0){m30}", ""),
+    ):
+        one, other = f"[{text}]", f"[{text}]-{never}"
+        if taken:
+            one, other = f"{one}-{taken}", f"[{other}]-{taken}"
+        yield desk(f"{name}, and less 30 February", ["same", one, other])
+    for name, text, taken, days in (
+        ("each minute's first second in February", "(M2s0){s1}", "", 28),
+        ("each minute's first second on a Monday less a date", "(t2s0){s1}", f"-{often}", 52),
+    ):
+        yield desk(f"{name}, and less 30 February", ["same", f"[{text}]{taken}", f"[{text}-{never}]{taken}"],
+                   4 * days * 1440 * 400, "spans")
+
+
 def words():
     """Long words, and many."""
     for sign in "+[( 9":
@@ -552,6 +581,7 @@ def cases(path):
     """Every case. A file is made when its case is asked for."""
     folder = Folder(path)
     yield from domains()
+    yield from compared()
     yield from words()
     for group in (one_row, one_element, cursors, many_elements, states, covered, changes, pictures, rows_in_order, one_field,
                   texts_twice, vehicle_lists, tags_of_ways, hours_rows, hours_texts):

@@ -1,4 +1,5 @@
 pub mod Difference
+pub mod Pieces
 pub use Rattle.gtd_core.specs.Seconds
 pub use Rattle.gtd_core.specs.Limits
 pub use Rattle.gtd_core.specs.Parts

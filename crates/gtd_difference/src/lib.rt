@@ -9,5 +9,7 @@ mod basics;
 mod comparison;
 mod first;
 pub mod laws;
+mod pieces;
+mod states;
 mod week;
 mod within;
