@@ -531,6 +531,19 @@ def tags_of_ways(folder):
     yield case("65,536 faulty values", few, (f"{n},access:conditional,no @ (8:00\n" for n in range(MOST_ROWS)))
 
 
+def rows_alike(folder):
+    """`same --file`, which compares the rows that have the same number."""
+    days = [f"M{1 + n % 12}d{1 + n // 12 % 28}" for n in range(336)]
+    streets = [f"[[(t2){{d5}}]*[(h7){{h9}}]]-[[({days[n % 336]}){{d1}}]+[({days[n * 47 % 336 - 1]}){{d1}}]]" for n in range(1_000)]
+    yield desk("1,000 streets, at school hours but for two days", ["same", "--file", folder.elements("streets", streets)])
+    seconds = [f"[(h{n % 24}m{n // 24 % 60}s{n // 1440 % 60}){{h2}}]" for n in range(MOST_ROWS)]
+    file = folder.file("multiples", HEADER + "".join(f"{4093 * (n + 1)},both,0,{text}\n" for n, text in enumerate(seconds)))
+    yield desk("65,536 elements in steps of 4,093, with unlike domains", ["same", "--file", file],
+               MOST_ROWS * 512, "spans of which 512 of each row are looked at")
+    late = [f"[(y{2300 + n}M3d{1 + n % 28}){{d1}}]+[(M5d1){{d1}}]" for n in range(64)]
+    yield desk("64 rows that differ after 2300 alone", ["same", "--file", folder.elements("late", late)])
+
+
 def hours_rows(folder):
     """Files of opening hours with public holidays, whose days are looked for anew for each row."""
     rows = MOST_ROWS - 1
@@ -584,5 +597,5 @@ def cases(path):
     yield from compared()
     yield from words()
     for group in (one_row, one_element, cursors, many_elements, states, covered, changes, pictures, rows_in_order, one_field,
-                  texts_twice, vehicle_lists, tags_of_ways, hours_rows, hours_texts):
+                  texts_twice, vehicle_lists, rows_alike, tags_of_ways, hours_rows, hours_texts):
         yield from group(folder)

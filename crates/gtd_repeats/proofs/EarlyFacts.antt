@@ -8,9 +8,9 @@ use Rattle.std.proofs.lemmas.Bool.{cases_Bool, eqb-true}
 use Rattle.std.proofs.lemmas.Bool.Decides.{nat_tests}
 use Rattle.std.proofs.lemmas.List.Sums.{count_by_more_no, count_by_more_yes, sum_by-append}
 use Rattle.gtd_records.specs.Closing.{Restriction}
-use Rattle.gtd_repeats.specs.Buckets.{bucket, place_of, with_entry}
+use Rattle.gtd_repeats.specs.Buckets.{entries_at, with_entry}
 use Rattle.gtd_repeats.specs.Findings.{IsCompared, IsEarly, IsFirstWithin, IsWithinNone, IsWithinOf, rows_of}
-use Rattle.gtd_repeats.specs.Kin.{AreAllKin, AreKin, IsAt, entries_with}
+use Rattle.gtd_repeats.specs.Kin.{AreAllKin, AreElementBuckets, AreKin, IsAt, entries_with}
 use Rattle.gtd_repeats.specs.Sameness.{row_at}
 use Rattle.gtd_repeats.specs.declared.buckets.Entry.{Entry}
 use Rattle.gtd_repeats.proofs.BucketFacts.{has_last, has_still}
@@ -168,32 +168,37 @@ module _ (rows : List Restriction) (entry : Entry) (inside : entry.row < length 
 
 -- ---- all buckets
 
-module _ (rows : List Restriction) (entry : Entry) (old : List (Vec Entry)) (inside : entry.row < length rows)
-    (named : (row_at rows entry.row).element ≡ entry.number) (are : AreAllKin rows entry.row old) where
-  pub kin_stay : 64 ≤ entries_with (bucket old entry.number) entry.number → AreAllKin rows (entry.row + 1) old
-  kin_stay full element =
-      stays rows entry inside named element (bucket old element) (are element)
-      (λ is. subst (λ (n : ℕ). 64 ≤ entries_with (bucket old n) n) is full)
+module _ (rows : List Restriction) (indices : List ℕ) (entry : Entry) (old : List (Vec Entry)) (bucket : ℕ)
+    (inside : entry.row < length rows) (named : (row_at rows entry.row).element ≡ entry.number)
+    (placed : AreElementBuckets rows indices) (at : get_or indices entry.row 0 ≡ bucket)
+    (are : AreAllKin rows indices entry.row old) where
+  -- a row of the entry's element has its bucket
+  one_bucket : (row : ℕ) → row < length rows → entry.number ≡ (row_at rows row).element → get_or indices row 0 ≡ bucket
+  one_bucket row here is = placed.same row entry.row here inside (sym (named ∙ is)) ∙ at
+
+  pub kin_stay : 64 ≤ entries_with (entries_at old bucket) entry.number → AreAllKin rows indices (entry.row + 1) old
+  kin_stay full row here =
+      let element = (row_at rows row).element in
+      stays rows entry inside named element (entries_at old (get_or indices row 0)) (are row here)
+      (λ is. rw (one_bucket row here is) (subst (λ (n : ℕ). 64 ≤ entries_with (entries_at old bucket) n) is full))
 
   chosen : {A : Type 0} (P : A → Type 0) (b : Bool) (x y : A) → (b ≡ true → P x) → (b ≡ false → P y) → P (cond b x y)
   chosen P true x y f g = f refl
   chosen P false x y f g = g refl
 
-  apart : (element : ℕ) → (place_of element == place_of entry.number) ≡ false → entry.number ≡ element → ⊥
-  apart element q is =
-      let e = same_tests (place_of element) (place_of entry.number) (ap place_of (sym is)) in
-      let no : true ≡ false = sym e ∙ q in cc
-
-  pub kin_more : (new : List (Vec Entry)) → entries_with (bucket old entry.number) entry.number < 64
-      → ((number : ℕ) → bucket new number ≡ with_entry entry number (bucket old number)) → AreAllKin rows (entry.row + 1) new
-  kin_more new few changed element =
-      subst (λ (l : List Entry). AreKin rows (entry.row + 1) element l) (sym (changed element))
-      (chosen (λ (l : List Entry). AreKin rows (entry.row + 1) element l) (place_of element == place_of entry.number)
-      (bucket old element ++ entry ∷ []) (bucket old element)
-      (λ p. grown rows entry inside named element (bucket old element) (are element)
-      (λ is. subst (λ (n : ℕ). entries_with (bucket old n) n < 64) is few))
-      (λ q. stays rows entry inside named element (bucket old element) (are element)
-      (λ is. absurd (apart element q is))))
+  pub kin_more : (new : List (Vec Entry)) → entries_with (entries_at old bucket) entry.number < 64
+      → ((other : ℕ) → entries_at new other ≡ with_entry bucket entry other (entries_at old other))
+      → AreAllKin rows indices (entry.row + 1) new
+  kin_more new few added row here =
+      let element = (row_at rows row).element in
+      let other = get_or indices row 0 in
+      let xs = entries_at old other in
+      subst (λ (l : List Entry). AreKin rows (entry.row + 1) element l) (sym (added other))
+      (chosen (λ (l : List Entry). AreKin rows (entry.row + 1) element l) (other == bucket) (xs ++ entry ∷ []) xs
+      (λ p. grown rows entry inside named element xs (are row here)
+      (λ is. rw (one_bucket row here is) (subst (λ (n : ℕ). entries_with (entries_at old bucket) n < 64) is few)))
+      (λ q. stays rows entry inside named element xs (are row here)
+      (λ is. let e = same_tests other bucket (one_bucket row here is) in let no : true ≡ false = sym e ∙ q in absurd cc)))
 
 no_entry : (rows : List Restriction) (element : ℕ) → AreKin rows 0 element []
 no_entry rows element = record {
@@ -204,10 +209,11 @@ no_entry rows element = record {
   enough = λ less. omega arith;
 }
 
-pub no_kin : (rows : List Restriction) (buckets : List (Vec Entry)) → ((number : ℕ) → bucket buckets number ≡ [])
-    → AreAllKin rows 0 buckets
-no_kin rows buckets empty element =
-    subst (λ (l : List Entry). AreKin rows 0 element l) (sym (empty element)) (no_entry rows element)
+pub no_kin : (rows : List Restriction) (indices : List ℕ) (buckets : List (Vec Entry))
+    → ((bucket : ℕ) → entries_at buckets bucket ≡ []) → AreAllKin rows indices 0 buckets
+no_kin rows indices buckets empty row here =
+    let element = (row_at rows row).element in
+    subst (λ (l : List Entry). AreKin rows 0 element l) (sym (empty (get_or indices row 0))) (no_entry rows element)
 
 -- the element of a row, as it is read
 pub element_is : (rows : List Restriction) (row : ℕ) (r : Restriction) → row < length rows → r ≡ slice_index_or rows row r

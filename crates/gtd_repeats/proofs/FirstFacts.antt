@@ -4,7 +4,7 @@ use Rattle.std.proofs.Common.{List, [], ◌∷◌, ◌++◌, length, get_or}
 use Rattle.std.specs.Prelude.{slice_index_or}
 use Rattle.std.specs.List.{Contains}
 use Rattle.std.specs.Global.{Vec}
-use Rattle.gtd_repeats.specs.Buckets.{IsListed}
+use Rattle.gtd_repeats.specs.Buckets.{AreBuckets, IsListed, entries_at}
 use Rattle.gtd_repeats.specs.Firsts.{AreFirsts, AreSoFar, IsFirst, IsLikeness, ShareNumbers}
 use Rattle.gtd_repeats.specs.declared.buckets.Entry.{Entry}
 use Rattle.gtd_repeats.proofs.ListFacts.{all_more, any_default, by_lt}
@@ -29,12 +29,12 @@ module _ (Alike : ℕ → ℕ → Type 0) (likeness : IsLikeness Alike) where
       (λ gt. absurd (a.least n gt (likeness.transitive n k j b.alike (likeness.symmetric j k like))))
       (λ e. e)
 
-module _ (Alike : ℕ → ℕ → Type 0) (likeness : IsLikeness Alike) (numbers firsts : List ℕ) (buckets : List (Vec Entry)) where
+module _ (Alike : ℕ → ℕ → Type 0) (likeness : IsLikeness Alike) (numbers indices firsts : List ℕ) (buckets : List (Vec Entry)) where
   abbrev pub IsFound : ℕ → ℕ → Type 0
-  IsFound row first = IsFirst Alike row first × IsListed buckets (get_or numbers first 0) first
+  IsFound row first = IsFirst Alike row first × IsListed buckets (get_or indices first 0) (get_or numbers first 0) first
 
   -- the first row that is like an earlier one is that of a row that is like the earlier one
-  pub joined : AreSoFar Alike numbers firsts buckets → (row j : ℕ) → row ≡ length firsts → j < length firsts → Alike j row
+  pub joined : AreSoFar Alike numbers indices firsts buckets → (row j : ℕ) → row ≡ length firsts → j < length firsts → Alike j row
       → IsFound row (get_or firsts j 0)
   joined so_far row j next early alike =
       let h = so_far.each j early in (
@@ -47,12 +47,12 @@ module _ (Alike : ℕ → ℕ → Type 0) (likeness : IsLikeness Alike) (numbers
       )
 
   -- a row that is like none that its number finds is the first
-  pub alone : AreSoFar Alike numbers firsts buckets → ShareNumbers Alike numbers → (row number : ℕ) (entries : List Entry)
-      → row ≡ length firsts → get_or numbers row 0 ≡ number
-      → ((j : ℕ) → IsListed buckets number j → Contains entries (record { number = number; row = j }))
+  pub alone : AreSoFar Alike numbers indices firsts buckets → ShareNumbers Alike numbers → AreBuckets numbers indices
+      → (row number bucket : ℕ) (entries : List Entry) → row < length numbers
+      → row ≡ length firsts → get_or numbers row 0 ≡ number → get_or indices row 0 ≡ bucket → entries ≡ entries_at buckets bucket
       → ((j : ℕ) → Contains entries (record { number = number; row = j }) → j < length firsts → Alike j row → ⊥)
       → Alike row row → IsFirst Alike row row
-  alone so_far shared row number entries next is listed none self = record {
+  alone so_far shared placed row number bucket entries inside next is at listed none self = record {
     not_later = omega arith;
     alike = self;
     least = λ k before like.
@@ -61,21 +61,27 @@ module _ (Alike : ℕ → ℕ → Type 0) (likeness : IsLikeness Alike) (numbers
         let h = so_far.each k early in
         let like_row : Alike m row = likeness.transitive m k row h.alike like in
         let same : get_or numbers m 0 ≡ number = shared m row like_row ∙ is in
-        let found = subst (λ (n : ℕ). IsListed buckets n m) same (so_far.kept k early) in
-        none m (listed m found) (let le = h.not_later in omega (arith, le, early)) like_row;
+        let le = h.not_later in
+        let there = placed.same m row (omega (arith, le, early, next, inside)) inside (same ∙ sym is) ∙ at in
+        let found = subst (λ (p : ℕ). IsListed buckets p number m) there
+        (subst (λ (n : ℕ). IsListed buckets (get_or indices m 0) n m) same (so_far.kept k early)) in
+        none m (subst (λ (xs : List Entry). Contains xs (record { number = number; row = m })) (sym listed) found)
+        (omega (arith, le, early)) like_row;
   }
 
   -- more buckets keep what was found
-  pub later : (more : List (Vec Entry)) → ((number row : ℕ) → IsListed buckets number row → IsListed more number row)
-      → AreSoFar Alike numbers firsts buckets → AreSoFar Alike numbers firsts more
+  pub later : (more : List (Vec Entry))
+      → ((bucket number row : ℕ) → IsListed buckets bucket number row → IsListed more bucket number row)
+      → AreSoFar Alike numbers indices firsts buckets → AreSoFar Alike numbers indices firsts more
   later more keeps so_far = record {
     each = so_far.each;
-    kept = λ row early. keeps (get_or numbers (get_or firsts row 0) 0) (get_or firsts row 0) (so_far.kept row early);
+    kept = λ row early. keeps (get_or indices (get_or firsts row 0) 0) (get_or numbers (get_or firsts row 0) 0)
+        (get_or firsts row 0) (so_far.kept row early);
   }
 
   -- with the first row that is like the next
-  pub so_far_more : (first row : ℕ) → row ≡ length firsts → IsFound row first → AreSoFar Alike numbers firsts buckets
-      → AreSoFar Alike numbers (firsts ++ first ∷ []) buckets
+  pub so_far_more : (first row : ℕ) → row ≡ length firsts → IsFound row first → AreSoFar Alike numbers indices firsts buckets
+      → AreSoFar Alike numbers indices (firsts ++ first ∷ []) buckets
   so_far_more first row next is so_far =
       let all = all_more IsFound firsts first row next is (λ k early. (so_far.each k early, so_far.kept k early)) in
       record { each = λ k early. (all k early).0; kept = λ k early. (all k early).1 }

@@ -1,6 +1,6 @@
 -- Rows that are alike have the same number.
 use Rattle.std.proofs.Common.{◌≡◌, ◌∙◌, sym, ap, subst, refl, arith, inl, inr, ℕ}
-use Rattle.std.proofs.Common.{List, [], ◌∷◌, length, get_or, add-zero, ◌+◌, ◌*◌}
+use Rattle.std.proofs.Common.{List, [], ◌∷◌, length, get_or, add-one, ◌<◌, ◌+◌, ◌-◌, ◌*◌}
 use Rattle.std.specs.Prelude.{ℤ, pos, ◌+ℤ◌, ◌<ℤ◌, ◌≤ℤ◌, Option, Some, None, MatchOption}
 use Rattle.std.proofs.lemmas.Int.{ints, by_lt_z}
 use Rattle.gtd_core.specs.Seconds.{Interval, IsHorizonSecond}
@@ -15,9 +15,9 @@ use Rattle.gtd_spans.specs.Normal.{Holds, IsNormalFor}
 use Rattle.gtd_spans.specs.facts.NormalFor.{normal-of}
 use Rattle.gtd_spans.specs.facts.OneList.{one-list}
 use Rattle.gtd_repeats.specs.Firsts.{AreFirsts, ShareNumbers}
-use Rattle.gtd_repeats.specs.Numbers.{AreJointNumbers, AreNumbers, IsEarlyNumber, IsLateNumber, IsNumberOf, IsSumIn}
-use Rattle.gtd_repeats.specs.Numbers.{early_begin, joint_number, late_begin, late_end, sum_of, total, weight, years_begin}
-use Rattle.gtd_repeats.specs.Numbers.{years_end}
+use Rattle.gtd_repeats.specs.Numbers.{AreJointNumbers, AreNumbers, IsEarlyNumber, IsLateNumber, IsNumberOf, IsNumberIn}
+use Rattle.gtd_repeats.specs.Numbers.{early_begin, joint_number, late_begin, late_end, number_of, with_first, with_interval}
+use Rattle.gtd_repeats.specs.Numbers.{years_begin, years_end}
 use Rattle.gtd_repeats.specs.Sameness.{AreAlikeIn, HoldSame, row_at}
 use Rattle.gtd_repeats.specs.declared.alike.Kind.TheVariants as kind
 use Rattle.gtd_repeats.proofs.AlikeFacts.{likeness, of_text}
@@ -30,10 +30,10 @@ one_way a b from until xs ys begun ended same n m t h =
     let in_range : IsHorizonSecond t = (omega (arith, ints, i.0, begun), omega (arith, ints, i.1, ended)) in
     m.complete t (i.0, i.1, (same t in_range).0 i.2)
 
--- the same seconds have one sum
-one_sum : (a b : Option Tree) (from until : ℤ) (m n : Option ℕ) → early_begin ≤ℤ from → until ≤ℤ late_end → HoldSame a b
-    → IsSumIn from until a m → IsSumIn from until b n → m ≡ n
-one_sum a b from until m n begun ended same x y =
+-- the same seconds have one number in the same days
+one_found : (a b : Option Tree) (from until : ℤ) (m n : Option ℕ) → early_begin ≤ℤ from → until ≤ℤ late_end → HoldSame a b
+    → IsNumberIn from until a m → IsNumberIn from until b n → m ≡ n
+one_found a b from until m n begun ended same x y =
     let back : HoldSame b a = λ t in_range. ((same t in_range).1, (same t in_range).0) in
     let e : x.0 ≡ y.0 =
     one-list x.0 y.0 (normal-of (HoldsAt a) from until x.0 x.1) (normal-of (HoldsAt b) from until y.0 y.1)
@@ -41,9 +41,9 @@ one_sum a b from until m n begun ended same x y =
       one_way a b from until x.0 y.0 begun ended same x.1 y.1 t,
       one_way b a from until y.0 x.0 begun ended back y.1 x.1 t,
     )) in
-    x.2 ∙ ap sum_of e ∙ sym (y.2)
+    x.2 ∙ ap number_of e ∙ sym (y.2)
 
--- numbers that are one sum, or else are the same
+-- numbers that are one, or else are the same
 one_or : (m n : ℕ) (A B : Type 0) (x y : Option ℕ) → x ≡ y → (A → B → m ≡ n) → MatchOption x A (λ s. m ≡ s)
     → MatchOption y B (λ s. n ≡ s) → m ≡ n
 one_or m n A B None None e f p q = f p q
@@ -55,18 +55,18 @@ one_or m n A B (Some s) (Some t) e f p q = cc
 pub one_number : (a b : Option Tree) (m n : ℕ) → HoldSame a b → IsNumberOf a m → IsNumberOf b n → m ≡ n
 one_number a b m n same x y =
     one_or m n (IsEarlyNumber a m) (IsEarlyNumber b n) x.0 y.0
-    (one_sum a b years_begin years_end x.0 y.0 (omega (arith, ints)) (omega (arith, ints)) same x.1 y.1)
+    (one_found a b years_begin years_end x.0 y.0 (omega (arith, ints)) (omega (arith, ints)) same x.1 y.1)
     (one_early a b m n same) x.2 y.2 where
       one_late : (a b : Option Tree) (m n : ℕ) → HoldSame a b → IsLateNumber a m → IsLateNumber b n → m ≡ n
       one_late a b m n same x y =
           one_or m n (m ≡ 0) (n ≡ 0) x.0 y.0
-          (one_sum a b late_begin late_end x.0 y.0 (omega (arith, ints)) (omega (arith, ints)) same x.1 y.1)
+          (one_found a b late_begin late_end x.0 y.0 (omega (arith, ints)) (omega (arith, ints)) same x.1 y.1)
           (λ p q. p ∙ sym q) x.2 y.2
 
       one_early : (a b : Option Tree) (m n : ℕ) → HoldSame a b → IsEarlyNumber a m → IsEarlyNumber b n → m ≡ n
       one_early a b m n same x y =
           one_or m n (IsLateNumber a m) (IsLateNumber b n) x.0 y.0
-          (one_sum a b early_begin late_begin x.0 y.0 (omega (arith, ints)) (omega (arith, ints)) same x.1 y.1)
+          (one_found a b early_begin late_begin x.0 y.0 (omega (arith, ints)) (omega (arith, ints)) same x.1 y.1)
           (one_late a b m n same) x.2 y.2
 
 module _ (rows : List Restriction) (numbers : List ℕ) where
@@ -89,11 +89,18 @@ module _ (rows : List Restriction) (numbers : List ℕ) where
       joint.each j h.0 ∙ ap (λ (e : ℕ). joint_number e (get_or firsts j 0)) h.2.element
       ∙ ap (joint_number (row_at rows k).element) first ∙ sym (joint.each k h.1)
 
--- ---- the sum over the first intervals
+-- ---- the number with the first intervals
 
-pub total_zero : (xs : List Interval) → total 0 xs ≡ 0
-total_zero [] = refl
-total_zero (x ∷ xs) = refl
+with_one_more : (count n : ℕ) (x : Interval) (xs : List Interval)
+    → with_first (count + 1) n (x ∷ xs) ≡ with_first count (with_interval n x) xs
+with_one_more count n x xs = rw (add-one count) refl
+
+-- with the next of them
+pub with_next : (k n : ℕ) (x : Interval) (xs ys : List Interval) → k < 512 → ys ≡ x ∷ xs
+    → with_first (512 - k) n ys ≡ with_first (512 - (k + 1)) (with_interval n x) xs
+with_next k n x xs ys less e =
+    let left : 512 - k ≡ (512 - (k + 1)) + 1 = omega (arith, less) in
+    rw (e, left) (with_one_more (512 - (k + 1)) n x xs)
 
 -- a row without a domain
 whole_normal : (x : Interval) → x.from ≡ years_begin → x.until ≡ years_end
@@ -105,8 +112,9 @@ whole_normal x e f = record {
   maximal = ((λ i. omega (arith, ints, i.0, e)), (λ i. omega (arith, ints, i.1, f)), tt);
 }
 
-pub whole_number : (x : Interval) (n : ℕ) → x.from ≡ years_begin → x.until ≡ years_end → n ≡ weight x → IsNumberOf None n
-whole_number x n e f is = (Some (weight x + 0), (x ∷ [], whole_normal x e f, refl), is ∙ sym (add-zero (weight x)))
+pub whole_number : (x : Interval) (n : ℕ) → x.from ≡ years_begin → x.until ≡ years_end → n ≡ with_interval 0 x
+    → IsNumberOf None n
+whole_number x n e f is = (Some (with_interval 0 x), (x ∷ [], whole_normal x e f, refl), is)
 
 -- ---- a domain without a second in the 28 years
 
@@ -131,16 +139,16 @@ none_normal set from until none = record {
   maximal = tt;
 }
 
-no_sum : (xs : List Interval) → None ≡ sum_of xs → xs ≡ []
-no_sum [] e = refl
-no_sum (x ∷ xs) e = cc
+no_number : (xs : List Interval) → None ≡ number_of xs → xs ≡ []
+no_number [] e = refl
+no_number (x ∷ xs) e = cc
 
 -- one that repeats after 7 days
-pub weekly_number : (tree : Tree) → AllWeekly tree → IsSumIn years_begin years_end (Some tree) None → IsNumberOf (Some tree) 0
+pub weekly_number : (tree : Tree) → AllWeekly tree → IsNumberIn years_begin years_end (Some tree) None → IsNumberOf (Some tree) 0
 weekly_number tree weekly x =
     let set : ℤ → Type 0 = InTree tree in
     let empty : IsNormalFor set years_begin years_end [] =
-    subst (λ (xs : List Interval). IsNormalFor set years_begin years_end xs) (no_sum x.0 x.2) x.1 in
+    subst (λ (xs : List Interval). IsNormalFor set years_begin years_end xs) (no_number x.0 x.2) x.1 in
     let none : (t : ℤ) → set t → ⊥ =
     nowhere set (λ t. tree-weekly tree t weekly) years_begin years_end (omega (arith, ints))
     (λ t later before h. absurd (empty.complete t (later, before, h))) in (
@@ -155,9 +163,9 @@ weekly_number tree weekly x =
 
 -- the same, as the code knows it
 pub weekly_known : (tree : Tree) (from until : ℤ) (sum : Option ℕ) → from ≡ years_begin → until ≡ years_end → sum ≡ None
-    → AllWeekly tree → IsSumIn from until (Some tree) sum → IsNumberOf (Some tree) 0
+    → AllWeekly tree → IsNumberIn from until (Some tree) sum → IsNumberOf (Some tree) 0
 weekly_known tree from until sum e f none weekly x =
-    let begun : IsSumIn years_begin until (Some tree) sum = subst (λ (s : ℤ). IsSumIn s until (Some tree) sum) e x in
-    let ended : IsSumIn years_begin years_end (Some tree) sum =
-    subst (λ (s : ℤ). IsSumIn years_begin s (Some tree) sum) f begun in
-    weekly_number tree weekly (subst (λ (s : Option ℕ). IsSumIn years_begin years_end (Some tree) s) none ended)
+    let begun : IsNumberIn years_begin until (Some tree) sum = subst (λ (s : ℤ). IsNumberIn s until (Some tree) sum) e x in
+    let ended : IsNumberIn years_begin years_end (Some tree) sum =
+    subst (λ (s : ℤ). IsNumberIn years_begin s (Some tree) sum) f begun in
+    weekly_number tree weekly (subst (λ (s : Option ℕ). IsNumberIn years_begin years_end (Some tree) s) none ended)

@@ -25,7 +25,8 @@ module _ (Alike : ℕ → ℕ → Type 0) where
   abbrev pub ShareNumbers : List ℕ → Type 0
   ShareNumbers numbers = (j k : ℕ) → Alike j k → get_or numbers j 0 ≡ get_or numbers k 0
 
-  -- Of the rows so far, the first that is like each; and each of these is found by its number.
-  pub record AreSoFar (numbers firsts : List ℕ) (buckets : List (Vec Entry)) : Type 0 where
+  -- Of the rows so far, the first that is like each; and each of these stands in its bucket, with its number.
+  pub record AreSoFar (numbers indices firsts : List ℕ) (buckets : List (Vec Entry)) : Type 0 where
     pub each : (row : ℕ) → row < length firsts → IsFirst row (get_or firsts row 0)
-    pub kept : (row : ℕ) → row < length firsts → IsListed buckets (get_or numbers (get_or firsts row 0) 0) (get_or firsts row 0)
+    pub kept : (row : ℕ) → row < length firsts
+        → IsListed buckets (get_or indices (get_or firsts row 0) 0) (get_or numbers (get_or firsts row 0) 0) (get_or firsts row 0)

@@ -1,10 +1,11 @@
 -- The first rows of each element, with which its rows are compared.
-use Rattle.std.specs.Prelude.{◌≡◌, ◌<◌, ◌≤◌, ◌==◌, ℕ, List, length, slice_index_or}
+use Rattle.std.specs.Prelude.{◌≡◌, ◌<◌, ◌≤◌, ◌==◌, ℕ, List, length, get_or, slice_index_or}
 use Rattle.std.specs.Global.{Vec}
 use Rattle.std.specs.List.{Contains, count_by}
 use Rattle.gtd_records.specs.Closing.{Restriction}
-use Rattle.gtd_repeats.specs.Buckets.{bucket}
+use Rattle.gtd_repeats.specs.Buckets.{entries_at}
 use Rattle.gtd_repeats.specs.Findings.{IsEarly, rows_of}
+use Rattle.gtd_repeats.specs.Sameness.{row_at}
 use Rattle.gtd_repeats.specs.declared.buckets.Entry.{Entry}
 
 -- how many of the entries have the number
@@ -25,6 +26,19 @@ pub record AreKin (rows : List Restriction) (count element : ℕ) (entries : Lis
   pub few : entries_with entries element ≤ rows_of rows element count
   pub enough : entries_with entries element < 64 → rows_of rows element count ≤ entries_with entries element
 
--- for each element, in its bucket
-abbrev pub AreAllKin : List Restriction → ℕ → List (Vec Entry) → Type 0
-AreAllKin rows count buckets = (element : ℕ) → AreKin rows count element (bucket buckets element)
+-- the elements of rows
+pub record AreElementsOf (rows : List Restriction) (elements : List ℕ) : Type 0 where
+  pub many : length elements ≡ length rows
+  pub each : (row : ℕ) → row < length rows → get_or elements row 0 ≡ (row_at rows row).element
+
+-- each row has a bucket, counted from 0 and below how many rows there are; the rows of an element have the same one
+pub record AreElementBuckets (rows : List Restriction) (indices : List ℕ) : Type 0 where
+  pub many : length indices ≡ length rows
+  pub inside : (row : ℕ) → row < length rows → get_or indices row 0 < length rows
+  pub same : (j k : ℕ) → j < length rows → k < length rows → (row_at rows j).element ≡ (row_at rows k).element
+      → get_or indices j 0 ≡ get_or indices k 0
+
+-- for the element of each row, in the bucket of the row
+abbrev pub AreAllKin : List Restriction → List ℕ → ℕ → List (Vec Entry) → Type 0
+AreAllKin rows indices count buckets =
+    (row : ℕ) → row < length rows → AreKin rows count (row_at rows row).element (entries_at buckets (get_or indices row 0))

@@ -1,5 +1,5 @@
 -- Numbers that rows with the same seconds share, and that few others have.
-use Rattle.std.specs.Prelude.{◌≡◌, ◌<◌, ◌+◌, ◌-◌, ◌*◌, ◌%◌, ◌==◌, ℕ, ℤ, pos, unsigned_abs, if◌then◌else◌}
+use Rattle.std.specs.Prelude.{◌≡◌, ◌<◌, ◌+◌, ◌*◌, ◌%◌, ℕ, zero, suc, ℤ, pos, unsigned_abs}
 use Rattle.std.specs.Prelude.{List, [], ◌∷◌, length, get_or, Option, Some, None, MatchOption, ◌*ℤ◌, ◌+ℤ◌}
 use Rattle.gtd_core.specs.Limits.{day_seconds, first_horizon_day, horizons_end, most_horizon_days}
 use Rattle.gtd_core.specs.Seconds.{Interval}
@@ -15,23 +15,26 @@ years_begin = pos 1_451_606_400
 abbrev pub years_end : ℤ
 years_end = pos 2_335_219_200
 
--- a number of an interval
-abbrev pub weight : Interval → ℕ
-weight x = 7 * (unsigned_abs x.from % 1_000_003) + unsigned_abs x.until % 1_000_003
+-- a number with an interval more
+abbrev pub with_interval : ℕ → Interval → ℕ
+with_interval number x =
+    (number * 31 + unsigned_abs x.from % 4_294_967_291 * 7 + unsigned_abs x.until % 4_294_967_291) % 4_294_967_291
 
--- the sum of those of the first intervals of a list
-abbrev pub total : ℕ → List Interval → ℕ
-total left [] = 0
-total left (x ∷ xs) = if left == 0 then 0 else weight x + total (left - 1) xs
+-- a number with the first intervals of a list, so many
+abbrev pub with_first : ℕ → ℕ → List Interval → ℕ
+with_first zero number xs = number
+with_first (suc count) number [] = number
+with_first (suc count) number (x ∷ xs) = with_first count (with_interval number x) xs
 
--- the sum of those of the first eight, if there are any
-abbrev pub sum_of : List Interval → Option ℕ
-sum_of [] = None
-sum_of (x ∷ xs) = Some (total 8 (x ∷ xs))
+-- the number of the first 512 intervals, if there are any
+abbrev pub number_of : List Interval → Option ℕ
+number_of [] = None
+number_of (x ∷ xs) = Some (with_first 511 (with_interval 0 x) xs)
 
 -- the same of the intervals in which it holds between two seconds
-abbrev pub IsSumIn : ℤ → ℤ → Option Tree → Option ℕ → Type 0
-IsSumIn from until domain sum = (xs : List Interval) × IsNormalFor (HoldsAt domain) from until xs × (sum ≡ sum_of xs)
+abbrev pub IsNumberIn : ℤ → ℤ → Option Tree → Option ℕ → Type 0
+IsNumberIn from until domain number =
+    (xs : List Interval) × IsNormalFor (HoldsAt domain) from until xs × (number ≡ number_of xs)
 
 -- the first seconds of the 400 years and a day from 1901 on, and of the rest up to 2700
 abbrev pub early_begin : ℤ
@@ -43,22 +46,22 @@ late_begin = (first_horizon_day +ℤ pos most_horizon_days) *ℤ pos day_seconds
 abbrev pub late_end : ℤ
 late_end = horizons_end *ℤ pos day_seconds
 
--- the sum of the rest of the years, or 0
+-- the number by the rest of the years, or 0
 abbrev pub IsLateNumber : Option Tree → ℕ → Type 0
 IsLateNumber domain number =
-    (sum : Option ℕ) × IsSumIn late_begin late_end domain sum × MatchOption sum (number ≡ 0) (λ late. number ≡ late)
+    (found : Option ℕ) × IsNumberIn late_begin late_end domain found × MatchOption found (number ≡ 0) (λ late. number ≡ late)
 
--- the sum of the 400 years; that of the rest, if it does not hold in them
+-- the number by the 400 years; that by the rest, if it does not hold in them
 abbrev pub IsEarlyNumber : Option Tree → ℕ → Type 0
 IsEarlyNumber domain number =
-    (sum : Option ℕ) × IsSumIn early_begin late_begin domain sum
-    × MatchOption sum (IsLateNumber domain number) (λ early. number ≡ early)
+    (found : Option ℕ) × IsNumberIn early_begin late_begin domain found
+    × MatchOption found (IsLateNumber domain number) (λ early. number ≡ early)
 
--- The number of a domain: the sum of the 28 years, or that of all years, if it does not hold in them.
+-- The number of a domain: that by the 28 years, or that by all years, if it does not hold in them.
 abbrev pub IsNumberOf : Option Tree → ℕ → Type 0
 IsNumberOf domain number =
-    (sum : Option ℕ) × IsSumIn years_begin years_end domain sum
-    × MatchOption sum (IsEarlyNumber domain number) (λ soon. number ≡ soon)
+    (found : Option ℕ) × IsNumberIn years_begin years_end domain found
+    × MatchOption found (IsEarlyNumber domain number) (λ soon. number ≡ soon)
 
 -- the number of each row's domain
 pub record AreNumbers (rows : List Restriction) (numbers : List ℕ) : Type 0 where
@@ -67,7 +70,7 @@ pub record AreNumbers (rows : List Restriction) (numbers : List ℕ) : Type 0 wh
 
 -- a number of a row, of its element and of the first row with the same seconds
 abbrev pub joint_number : ℕ → ℕ → ℕ
-joint_number element first = (element % 1_000_003) * 65_536 + first % 65_536
+joint_number element first = (element % 4_294_967_291) * 65_536 + first % 65_536
 
 -- that of each row, if these are the first rows with the same seconds
 pub record AreJointNumbers (rows : List Restriction) (firsts numbers : List ℕ) : Type 0 where

@@ -6,7 +6,7 @@ ghost use Rattle.gtd_repeats.specs.Answers.{AreRight};
 ghost use Rattle.gtd_repeats.specs.Findings.{AreFindings, AreGrouped, IsFirstMeaning, IsFirstText, IsSaidOfRow, IsSaidOfText};
 ghost use Rattle.gtd_repeats.specs.Findings.{with_finding};
 ghost use Rattle.gtd_repeats.specs.Firsts.{AreFirsts};
-ghost use Rattle.gtd_repeats.specs.Kin.{AreAllKin, AreKin};
+ghost use Rattle.gtd_repeats.specs.Kin.{AreAllKin, AreElementBuckets, AreKin};
 ghost use Rattle.gtd_repeats.specs.Known.{AreKnown};
 ghost use Rattle.gtd_repeats.specs.Sameness.{AreAlikeIn, row_at};
 ghost use Rattle.gtd_repeats.specs.declared.alike.Kind.TheVariants as declared;
@@ -15,7 +15,7 @@ use crate::alike::{Compared, Kind};
 use crate::answers::{Answer, first_answers};
 use crate::buckets::{Entry, entries_of};
 use crate::firsts::firsts_of;
-use crate::kin::{Grouped, kin_of, within_of};
+use crate::kin::{Grouped, element_buckets, kin_of, within_of};
 use crate::known::known_rows;
 use crate::numbers::{joint_numbers, numbers_of};
 use crate::spans::spans_of;
@@ -148,21 +148,21 @@ fn findings_by(
     alloc: Global,
     all: &Grouped<'_>,
     texts: &[usize],
+    indices: &[usize],
     kin: &[Vec<Entry>],
 ) -> Result<Vec<Finding>, AllocError>
     requires few { length all.now.rows.now ≤ most_rows }
     requires grouped { AreGrouped all.now.rows.now all.now.meanings.now all.now.sames.now all.now.spans.now }
     requires texts { AreFirsts (AreAlikeIn all.now.rows.now declared.Text) (length all.now.rows.now) texts.now }
-    requires many { length kin.now ≡ 4093 }
-    requires kin { AreAllKin all.now.rows.now (length all.now.rows.now) kin.now }
+    requires buckets { AreElementBuckets all.now.rows.now indices.now }
+    requires many { length kin.now ≡ length all.now.rows.now }
+    requires kin { AreAllKin all.now.rows.now indices.now (length all.now.rows.now) kin.now }
     ensures findings { IfOk result (λ findings. AreFindings all.now.rows.now findings.items) }
 {
     let mut findings = Vec::new(alloc);
     let mut answers = first_answers(alloc)?;
     for row in 0..all.rows.len() {
-        let rows = all.rows;
-        let record = &rows[row];
-        let entries = entries_of(kin, record.element);
+        let entries = entries_of(kin, indices[row]);
         let of_row = said_of_row(alloc, all, &mut answers, entries, row)?;
         let of_text = said_of_text(all.rows, texts[row], all.meanings[row], row);
         push_finding(&mut findings, of_row)?;
@@ -178,7 +178,8 @@ pub(crate) fn findings_of(alloc: Global, rows: &[Record]) -> Result<Vec<Finding>
 {
     let (texts, meanings) = meanings_of(alloc, rows)?;
     let sames = sames_of(alloc, rows, meanings.as_slice())?;
-    let kin = kin_of(alloc, rows)?;
+    let indices = element_buckets(alloc, rows)?;
+    let kin = kin_of(alloc, rows, indices.as_slice())?;
     let spans = spans_of(alloc, rows, meanings.as_slice())?;
     let all = Grouped {
         rows,
@@ -186,5 +187,11 @@ pub(crate) fn findings_of(alloc: Global, rows: &[Record]) -> Result<Vec<Finding>
         sames: sames.as_slice(),
         spans: spans.as_slice(),
     };
-    findings_by(alloc, &all, texts.as_slice(), kin.as_slice())
+    findings_by(
+        alloc,
+        &all,
+        texts.as_slice(),
+        indices.as_slice(),
+        kin.as_slice(),
+    )
 }

@@ -2,10 +2,10 @@
 
 ghost use Rattle.std.specs.Prelude.{◌≡◌, ◌<◌, ◌≤◌, ◌↔◌, ℕ, List, IfOk, IsTrue, MatchOption, OnOk, get_or, length};
 ghost use Rattle.std.specs.List.{Contains};
-ghost use Rattle.gtd_repeats.specs.Buckets.{IsListed};
 ghost use Rattle.gtd_repeats.specs.Firsts.{AreFirsts, AreSoFar, IsFirst, IsLikeness, ShareNumbers};
+ghost use Rattle.gtd_repeats.specs.Buckets.{AreBuckets, IsListed};
 
-use crate::buckets::{Entry, add_entry, empty_buckets, entries_of};
+use crate::buckets::{Entry, add_entry, buckets_of, empty_buckets, entries_of};
 use std::alloc::{AllocError, Global};
 
 /// When two rows of a file are alike. Rows are counted from 0.
@@ -18,10 +18,13 @@ pub(crate) trait Likeness {
         ensures decided { IfOk result (λ is. IsTrue is ↔ alike self.now first second) };
 }
 
-/// A row of which the first that is like it is asked for, and a row that is known to be like it: an earlier one, or itself.
+/// A row of which the first that is like it is asked for.
 #[derive(Clone, Copy)]
 pub(crate) struct Asked {
     pub(crate) entry: Entry,
+    /// The bucket of its number.
+    pub(crate) bucket: usize,
+    /// A row that is known to be like it: an earlier one, or itself.
     pub(crate) known: usize,
 }
 
@@ -72,29 +75,33 @@ fn first_alike<L: Likeness>(
     Ok(None)
 }
 
-// The first row that is like the one that is asked about, which is the next, and which no earlier row is known to be like.
+// The first row that is like the one that is asked about, which is the next, and which no earlier row is known to be like. Rows
+// are compared if they have the same number: these stand in one bucket.
 fn first_new<L: Likeness>(
     alloc: Global,
     rows: &L,
     firsts: &[usize],
     buckets: &mut Vec<Vec<Entry>>,
-    asked: Entry,
+    asked: Asked,
 ) -> Result<usize, AllocError>
-    requires many { length buckets.old.items ≡ 4093 }
-    requires next { asked.row ≡ length firsts.now }
-    ensures many { length buckets.new.items ≡ 4093 }
-    ensures first { (numbers : List ℕ) → IsLikeness (L.alike rows.now) → ShareNumbers (L.alike rows.now) numbers
-        → AreSoFar (L.alike rows.now) numbers firsts.now buckets.old.items → get_or numbers asked.row 0 ≡ asked.number
-        → L.alike rows.now asked.row asked.row → IfOk result (λ first. IsFirst (L.alike rows.now) asked.row first
-        × AreSoFar (L.alike rows.now) numbers firsts.now buckets.new.items
-        × IsListed buckets.new.items (get_or numbers first 0) first) }
+    requires inside { asked.bucket < length buckets.old.items }
+    requires next { asked.entry.row ≡ length firsts.now }
+    ensures many { length buckets.new.items ≡ length buckets.old.items }
+    ensures first { (numbers indices : List ℕ) → IsLikeness (L.alike rows.now) → ShareNumbers (L.alike rows.now) numbers
+        → AreBuckets numbers indices → asked.entry.row < length numbers
+        → AreSoFar (L.alike rows.now) numbers indices firsts.now buckets.old.items
+        → get_or numbers asked.entry.row 0 ≡ asked.entry.number → get_or indices asked.entry.row 0 ≡ asked.bucket
+        → L.alike rows.now asked.entry.row asked.entry.row
+        → IfOk result (λ first. IsFirst (L.alike rows.now) asked.entry.row first
+        × AreSoFar (L.alike rows.now) numbers indices firsts.now buckets.new.items
+        × IsListed buckets.new.items (get_or indices first 0) (get_or numbers first 0) first) }
 {
-    let entries = entries_of(buckets.as_slice(), asked.number);
-    match first_alike(alloc, rows, firsts, entries, asked)? {
+    let entries = entries_of(buckets.as_slice(), asked.bucket);
+    match first_alike(alloc, rows, firsts, entries, asked.entry)? {
         Some(first) => Ok(first),
         None => {
-            add_entry(buckets, asked)?;
-            Ok(asked.row)
+            add_entry(buckets, asked.bucket, asked.entry)?;
+            Ok(asked.entry.row)
         }
     }
 }
@@ -107,20 +114,21 @@ fn first_of<L: Likeness>(
     buckets: &mut Vec<Vec<Entry>>,
     asked: Asked,
 ) -> Result<usize, AllocError>
-    requires many { length buckets.old.items ≡ 4093 }
+    requires inside { asked.bucket < length buckets.old.items }
     requires next { asked.entry.row ≡ length firsts.now }
-    ensures many { length buckets.new.items ≡ 4093 }
-    ensures first { (numbers : List ℕ) → IsLikeness (L.alike rows.now) → ShareNumbers (L.alike rows.now) numbers
-        → AreSoFar (L.alike rows.now) numbers firsts.now buckets.old.items
-        → get_or numbers asked.entry.row 0 ≡ asked.entry.number → L.alike rows.now asked.known asked.entry.row
-        → asked.known ≤ asked.entry.row
+    ensures many { length buckets.new.items ≡ length buckets.old.items }
+    ensures first { (numbers indices : List ℕ) → IsLikeness (L.alike rows.now) → ShareNumbers (L.alike rows.now) numbers
+        → AreBuckets numbers indices → asked.entry.row < length numbers
+        → AreSoFar (L.alike rows.now) numbers indices firsts.now buckets.old.items
+        → get_or numbers asked.entry.row 0 ≡ asked.entry.number → get_or indices asked.entry.row 0 ≡ asked.bucket
+        → L.alike rows.now asked.known asked.entry.row → asked.known ≤ asked.entry.row
         → IfOk result (λ first. IsFirst (L.alike rows.now) asked.entry.row first
-        × AreSoFar (L.alike rows.now) numbers firsts.now buckets.new.items
-        × IsListed buckets.new.items (get_or numbers first 0) first) }
+        × AreSoFar (L.alike rows.now) numbers indices firsts.now buckets.new.items
+        × IsListed buckets.new.items (get_or indices first 0) (get_or numbers first 0) first) }
 {
     match firsts.get(asked.known) {
         Some(first) => Ok(*first),
-        None => first_new(alloc, rows, firsts, buckets, asked.entry),
+        None => first_new(alloc, rows, firsts, buckets, asked),
     }
 }
 
@@ -139,14 +147,16 @@ pub(crate) fn firsts_of<L: Likeness>(
         → L.alike rows.now (get_or known.now row 0) row × (get_or known.now row 0 ≤ row) }
     ensures firsts { IfOk result (λ firsts. AreFirsts (L.alike rows.now) (length numbers.now) firsts.items) }
 {
+    let indices = buckets_of(alloc, numbers)?;
     let mut firsts = Vec::new(alloc);
-    let mut buckets = empty_buckets(alloc)?;
+    let mut buckets = empty_buckets(alloc, numbers.len())?;
     for row in 0..numbers.len() {
         let asked = Asked {
             entry: Entry {
                 number: numbers[row],
                 row,
             },
+            bucket: indices[row],
             known: known[row],
         };
         let first = first_of(alloc, rows, firsts.as_slice(), &mut buckets, asked)?;

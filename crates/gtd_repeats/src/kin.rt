@@ -1,14 +1,14 @@
 //! The first rows of each element, with which its rows are compared.
 
-ghost use Rattle.std.specs.Prelude.{◌≡◌, ◌<◌, ◌+◌, ◌↔◌, List, IfOk, IsTrue, MatchOption, OnOk, length};
+ghost use Rattle.std.specs.Prelude.{◌≡◌, ◌<◌, ◌+◌, ◌↔◌, ℕ, List, IfOk, IsTrue, MatchOption, OnOk, get_or, length};
 ghost use Rattle.gtd_records.specs.Closing.{Restriction};
 ghost use Rattle.gtd_repeats.specs.Answers.{AreRight, IsWithinSeconds};
 ghost use Rattle.gtd_repeats.specs.Findings.{AreGrouped, IsFirstWithin, IsWithinNone, IsWithinOf};
-ghost use Rattle.gtd_repeats.specs.Kin.{AreAllKin, AreKin, entries_with};
+ghost use Rattle.gtd_repeats.specs.Kin.{AreAllKin, AreElementBuckets, AreElementsOf, AreKin, entries_with};
 ghost use Rattle.gtd_repeats.specs.Sameness.{row_at};
 
 use crate::answers::{Answer, is_within_seconds};
-use crate::buckets::{Entry, add_entry, empty_buckets, entries_of};
+use crate::buckets::{Entry, add_entry, buckets_of, empty_buckets, entries_of};
 use crate::rows::may_be_within;
 use crate::seconds::is_end_alone;
 use gtd_core::Span;
@@ -32,30 +32,55 @@ fn count_of(entries: &[Entry], number: u64) -> usize
 }
 
 // Adds the next row to those of its element, unless these are 64.
-fn add_kin(kin: &mut Vec<Vec<Entry>>, entry: Entry) -> Result<(), AllocError>
-    requires many { length kin.old.items ≡ 4093 }
-    ensures many { length kin.new.items ≡ 4093 }
-    ensures kin { OnOk result ((rows : List Restriction) → entry.row < length rows
-        → (row_at rows entry.row).element ≡ entry.number → AreAllKin rows entry.row kin.old.items
-        → AreAllKin rows (entry.row + 1) kin.new.items) }
+fn add_kin(kin: &mut Vec<Vec<Entry>>, bucket: usize, entry: Entry) -> Result<(), AllocError>
+    requires inside { bucket < length kin.old.items }
+    ensures many { length kin.new.items ≡ length kin.old.items }
+    ensures kin { OnOk result ((rows : List Restriction) (indices : List ℕ) → entry.row < length rows
+        → (row_at rows entry.row).element ≡ entry.number → AreElementBuckets rows indices → get_or indices entry.row 0 ≡ bucket
+        → AreAllKin rows indices entry.row kin.old.items → AreAllKin rows indices (entry.row + 1) kin.new.items) }
 {
-    let entries = entries_of(kin.as_slice(), entry.number);
+    let entries = entries_of(kin.as_slice(), bucket);
     if count_of(entries, entry.number) >= MOST_KIN {
         return Ok(());
     }
-    add_entry(kin, entry)
+    add_entry(kin, bucket, entry)
 }
 
-/// The first rows of each element, at most 64, by its number.
-pub(crate) fn kin_of(alloc: Global, rows: &[Record]) -> Result<Vec<Vec<Entry>>, AllocError>
-    ensures many { IfOk result (λ kin. length kin.items ≡ 4093) }
-    ensures kin { IfOk result (λ kin. AreAllKin rows.now (length rows.now) kin.items) }
+// The element of each row.
+fn elements_of(alloc: Global, rows: &[Record]) -> Result<Vec<u64>, AllocError>
+    ensures elements { IfOk result (λ elements. AreElementsOf rows.now elements.items) }
 {
-    let mut kin = empty_buckets(alloc)?;
+    let mut elements = Vec::new(alloc);
+    for row in 0..rows.len() {
+        let record = &rows[row];
+        elements.push(record.element)?;
+    }
+    Ok(elements)
+}
+
+/// For each row its bucket, which it shares with the rows of its element.
+pub(crate) fn element_buckets(alloc: Global, rows: &[Record]) -> Result<Vec<usize>, AllocError>
+    ensures buckets { IfOk result (λ indices. AreElementBuckets rows.now indices.items) }
+{
+    let elements = elements_of(alloc, rows)?;
+    buckets_of(alloc, elements.as_slice())
+}
+
+/// The first rows of each element, at most 64, in the bucket of its rows.
+pub(crate) fn kin_of(
+    alloc: Global,
+    rows: &[Record],
+    indices: &[usize],
+) -> Result<Vec<Vec<Entry>>, AllocError>
+    requires buckets { AreElementBuckets rows.now indices.now }
+    ensures many { IfOk result (λ kin. length kin.items ≡ length rows.now) }
+    ensures kin { IfOk result (λ kin. AreAllKin rows.now indices.now (length rows.now) kin.items) }
+{
+    let mut kin = empty_buckets(alloc, rows.len())?;
     for row in 0..rows.len() {
         let record = &rows[row];
         let number = record.element;
-        add_kin(&mut kin, Entry { number, row })?;
+        add_kin(&mut kin, indices[row], Entry { number, row })?;
     }
     Ok(kin)
 }

@@ -6,8 +6,8 @@ ghost use Rattle.gtd_core.specs.Whole.{whole};
 ghost use Rattle.gtd_eval.specs.Cursors.{cursor_list};
 ghost use Rattle.gtd_repeats.specs.Known.{AreKnown};
 ghost use Rattle.gtd_repeats.specs.Numbers as spec;
-ghost use Rattle.gtd_repeats.specs.Numbers.{AreJointNumbers, AreNumbers, IsEarlyNumber, IsLateNumber, IsNumberOf, IsSumIn};
-ghost use Rattle.gtd_repeats.specs.Numbers.{joint_number};
+ghost use Rattle.gtd_repeats.specs.Numbers.{AreJointNumbers, AreNumbers, IsEarlyNumber, IsLateNumber, IsNumberIn, IsNumberOf};
+ghost use Rattle.gtd_repeats.specs.Numbers.{joint_number, with_first, with_interval};
 ghost use Rattle.gtd_repeats.specs.Sameness.{row_at};
 
 use crate::seconds::days_between;
@@ -23,46 +23,45 @@ const FIRST_DAY: i64 = 16_801;
 
 const END_DAY: i64 = 27_028;
 
-/// How many spans are looked at.
-const SPANS: u8 = 8;
+/// How many spans are looked at: those of more than a year, if there is one each day.
+const SPANS: usize = 512;
 
-/// Numbers are of remainders by this prime.
-const PRIME: u64 = 1_000_003;
+/// Numbers are remainders by this prime.
+const PRIME: u64 = 4_294_967_291;
 
-// A number of a span.
-fn weight(span: Span) -> u64
-    ensures value { result ≡ spec.weight span }
-    ensures small { result < 8_000_024 }
+// The number with a span more.
+fn with_span(number: u64, span: Span) -> u64
+    requires small { number < 4_294_967_291 }
+    ensures value { result ≡ with_interval number span }
+    ensures small { result < 4_294_967_291 }
 {
     let from = span.from().0.unsigned_abs() % PRIME;
     let until = span.until().0.unsigned_abs() % PRIME;
-    7 * from + until
+    (number * 31 + from * 7 + until) % PRIME
 }
 
-// The sum of those of the next spans.
-fn total_of(cursor: &mut Cursor, left: u8) -> u64
-    requires few { left ≤ 8 }
-    ensures value { result ≡ spec.total left (cursor_list cursor.old) }
-    ensures small { result ≤ left * 8_000_024 }
+// The number with the next spans of a cursor, of which one was taken.
+fn with_next(cursor: &mut Cursor, number: u64) -> u64
+    requires small { number < 4_294_967_291 }
+    ensures value { result ≡ with_first 511 number (cursor_list cursor.old) }
 {
-    if left == 0 {
-        return 0;
+    let mut joined = number;
+    for _ in 1..SPANS {
+        let Some(span) = cursor.next() else {
+            return joined;
+        };
+        joined = with_span(joined, span);
     }
-    let Some(span) = cursor.next() else {
-        return 0;
-    };
-    let first = weight(span);
-    let rest = total_of(cursor, left - 1);
-    first + rest
+    joined
 }
 
-// The sum of those of the domain's first spans of these days, or `None` if it has none.
-fn sum_in(alloc: Global, domain: &Domain, days: Horizon) -> Result<Option<u64>, AllocError>
-    ensures sum { IfOk result (IsSumIn (whole days).from (whole days).until (Some (domain_tree domain.now))) }
+// The number of the domain's first spans of these days, or `None` if it has none.
+fn number_in(alloc: Global, domain: &Domain, days: Horizon) -> Result<Option<u64>, AllocError>
+    ensures number { IfOk result (IsNumberIn (whole days).from (whole days).until (Some (domain_tree domain.now))) }
 {
     let mut cursor = Cursor::open(alloc, domain, days)?;
     match cursor.next() {
-        Some(span) => Ok(Some(weight(span) + total_of(&mut cursor, SPANS - 1))),
+        Some(span) => Ok(Some(with_next(&mut cursor, with_span(0, span)))),
         None => Ok(None),
     }
 }
@@ -72,7 +71,7 @@ fn late_number(alloc: Global, domain: &Domain) -> Result<u64, AllocError>
     ensures number { IfOk result (IsLateNumber (Some (domain_tree domain.now))) }
 {
     let days = days_between(FIRST_HORIZON_DAY + MOST_HORIZON_DAYS, HORIZONS_END);
-    match sum_in(alloc, domain, days)? {
+    match number_in(alloc, domain, days)? {
         Some(late) => Ok(late),
         None => Ok(0),
     }
@@ -83,7 +82,7 @@ fn early_number(alloc: Global, domain: &Domain) -> Result<u64, AllocError>
     ensures number { IfOk result (IsEarlyNumber (Some (domain_tree domain.now))) }
 {
     let days = days_between(FIRST_HORIZON_DAY, FIRST_HORIZON_DAY + MOST_HORIZON_DAYS);
-    match sum_in(alloc, domain, days)? {
+    match number_in(alloc, domain, days)? {
         Some(early) => Ok(early),
         None => late_number(alloc, domain),
     }
@@ -93,7 +92,7 @@ fn early_number(alloc: Global, domain: &Domain) -> Result<u64, AllocError>
 fn number_of_domain(alloc: Global, domain: &Domain) -> Result<u64, AllocError>
     ensures number { IfOk result (IsNumberOf (Some (domain_tree domain.now))) }
 {
-    match sum_in(alloc, domain, days_between(FIRST_DAY, END_DAY))? {
+    match number_in(alloc, domain, days_between(FIRST_DAY, END_DAY))? {
         Some(soon) => Ok(soon),
         None => {
             if is_weekly(domain) {
@@ -112,7 +111,7 @@ fn number_of(alloc: Global, domain: Option<&Domain>) -> Result<u64, AllocError>
         Some(domain) => number_of_domain(alloc, domain),
         None => {
             let years = days_between(FIRST_DAY, END_DAY);
-            Ok(weight(years.whole()))
+            Ok(with_span(0, years.whole()))
         }
     }
 }

@@ -1,12 +1,13 @@
--- The entries are those of the bucket of the number.
-use Rattle.std.proofs.Common.{◌∙◌, ap, arith}
-use Rattle.gtd_repeats.specs.Buckets.{entries_at}
-use Rattle.gtd_repeats.proofs.BucketFacts.{entries_in}
+-- The entries are those of the bucket.
+use Rattle.std.proofs.Common.{◌∙◌, ap, sym}
+use Rattle.std.specs.Global.{Vec}
+use Rattle.gtd_repeats.specs.declared.buckets.Entry.{Entry}
+use Rattle.gtd_repeats.proofs.BucketFacts.{entries_is}
 use Rattle.gtd_repeats.proofs.buckets.entries_of.Goals as goal
 
-pub returns-clause-all : goal.returns-clause-all
-returns-clause-all c =
-    c.as_slice.ensures.value
-    ∙ entries_in c.args.buckets.now c.place_of.result c.index-buckets-place_of.result
-    (omega (arith, c.place_of.ensures.inside, c.requires.many)) c.index-buckets-place_of.is
-    ∙ ap (entries_at c.args.buckets.now) c.place_of.ensures.value
+pub returns : goal.returns
+returns c = record {
+  entries =
+      c.as_slice.ensures.value ∙ ap (λ (w : Vec Entry). w.items) c.index-buckets-bucket.is
+      ∙ sym (entries_is c.args.buckets.now c.args.bucket c.index-buckets-bucket.result c.requires.inside);
+}

@@ -12,6 +12,6 @@ returns-in-None c =
     let last = c.days_between-years.ensures.last in
     let all = c.whole.ensures.value in
     record {
-      number = rw e (whole_number c.whole.result c.weight.result (rw all (omega (arith, ints, first)))
-          (rw all (omega (arith, ints, last))) c.weight.ensures.value);
+      number = rw e (whole_number c.whole.result c.with_span.result (rw all (omega (arith, ints, first)))
+          (rw all (omega (arith, ints, last))) c.with_span.ensures.value);
     }

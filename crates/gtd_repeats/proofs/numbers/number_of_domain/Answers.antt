@@ -14,5 +14,5 @@ returns-then-is_weekly c =
     record {
       number = weekly_known (domain_tree c.args.domain.now) days.from days.until c.in_ok-soon.field-0
           (omega (arith, ints, first)) (omega (arith, ints, last)) c.in-None.is (c.if-is_weekly.ensures.weekly.0 refl)
-          c.in_ok-soon.ensures.sum;
+          c.in_ok-soon.ensures.number;
     }
