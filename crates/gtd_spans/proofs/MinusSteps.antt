@@ -1,15 +1,18 @@
 -- The steps of a difference.
-use Rattle.std.proofs.Common.{◌∙◌, ap, ◌⊎◌, List, ◌∷◌, inl, inr, arith, Option, Some, None, IfSome}
+use Rattle.std.proofs.Common.{◌≡◌, ◌∙◌, ap, sym, ◌⊎◌, List, [], ◌∷◌, inl, inr, arith, Option, Some, None, IfSome}
 use Rattle.std.specs.Prelude.{ℤ, ◌≤ℤ◌, ◌<ℤ◌}
 use Rattle.std.proofs.lemmas.Int.{ints, by_lt_z}
 use Rattle.gtd_core.specs.Seconds.{Interval}
 use Rattle.gtd_core.specs.declared.domain.Op.TheVariants.{Minus}
 use Rattle.gtd_spans.specs.Normal.{Holds, IsNormal, combine}
-use Rattle.gtd_spans.specs.Merging.{listed, AllBeginFrom}
+use Rattle.gtd_spans.specs.declared.merge.Merge.{Merge}
+use Rattle.gtd_spans.specs.declared.merge.Side.{Side}
+use Rattle.gtd_spans.specs.declared.merge.Side.TheVariants.{Open, Held, Ended}
+use Rattle.gtd_spans.specs.Merging.{listed, side_list, still, AllBeginFrom, TakesOff}
 use Rattle.gtd_spans.specs.facts.OneList.{after-holds, first-holds}
 use Rattle.gtd_spans.specs.facts.Combining.{combine-normal, combine-holds}
-use Rattle.gtd_spans.proofs.UnionSteps.{Handed, from-holds}
-use Rattle.gtd_spans.proofs.MeetSteps.{handed-by}
+use Rattle.gtd_spans.proofs.UnionSteps.{Handed, from-holds, union-nil}
+use Rattle.gtd_spans.proofs.MeetSteps.{handed-by, minus-keeps, nothing-minus}
 
 gap-of : (g : Option Interval) (ms qs : List Interval)
     → IfSome g (λ a. (a.from <ℤ a.until) × ((t : ℤ) → Holds ms t → (Holds qs t → ⊥) → a.until <ℤ t))
@@ -133,3 +136,42 @@ give-drop x y l r n m lt within lu =
     let rest : Interval = record { from = y.from; until = x.until } in
     let begun : y.from ≤ℤ y.from = omega (arith, ints) in
     give-part x y l r n m lt within ∙ ap (λ (t : List Interval). part ∷ t) (drop-left rest y l r (within, n.1, n.2) m begun lu)
+
+-- the first interval was taken off the right side, where the left side has one interval and no more
+pub taken-off : (s : Merge) (x y : Interval) (a : Side) (g : Option Interval) → s.op ≡ Minus → s.left ≡ Held x → s.right ≡ Open
+    → ((after : List Interval) → IsNormal (x ∷ []) → IsNormal (y ∷ after)
+    → IsNormal (side_list a []) × Handed g (combine Minus (x ∷ []) (y ∷ after)) (combine Minus (side_list a []) after))
+    → TakesOff s y g (record { op = s.op; left = a; right = s.right; kept = s.kept })
+taken-off s x y a g op left right by after f =
+    let n : IsNormal (x ∷ []) = rw left at f.left in
+    let m : IsNormal (y ∷ after) = rw right at f.right in
+    let none : s.kept ≡ None = minus-keeps s.kept (rw op at f.keeps) in
+    let one = by after n m in (
+      record { left = one.0; right = rw right m.2; kept = rw none tt; keeps = f.keeps },
+      rw (
+        none,
+        op,
+        left,
+        right,
+        union-nil _ (combine-normal Minus (x ∷ []) (y ∷ after)),
+        union-nil _ (combine-normal Minus (side_list a []) after),
+      ) one.1,
+    )
+
+-- what comes first on the right side makes no difference to nothing
+pub nothing-less : (y : Interval) (r : List Interval) → combine Minus [] (y ∷ r) ≡ combine Minus [] r
+nothing-less y r = nothing-minus (y ∷ r) ∙ sym (nothing-minus r)
+
+pub one-and-nothing-less : (x y : Interval) (r : List Interval) → x ∷ combine Minus [] (y ∷ r) ≡ x ∷ combine Minus [] r
+one-and-nothing-less x y r = ap (λ (t : List Interval). x ∷ t) (nothing-less y r)
+
+-- the same, where the left side has nothing
+pub taken-off-nothing : (s : Merge) (y : Interval) → s.op ≡ Minus → s.left ≡ Ended → s.right ≡ Open → TakesOff s y None s
+taken-off-nothing s y op left right after f =
+    let m : IsNormal (y ∷ after) = rw right at f.right in
+    let none : s.kept ≡ None = minus-keeps s.kept (rw op at f.keeps) in
+    let before : still s [] (y ∷ after) ≡ [] = rw (none, op, left, nothing-minus) (union-nil [] tt) in
+    let behind : still s [] after ≡ [] = rw (none, op, left, nothing-minus) (union-nil [] tt) in (
+      record { left = rw left tt; right = rw right m.2; kept = rw none tt; keeps = f.keeps },
+      before ∙ sym behind,
+    )

@@ -156,3 +156,8 @@ StepsBeside s Left t = AwaitsRight t × ((l : List Interval) → Fits s [] l →
 StepsBeside s Right t = ⊥
 StepsBeside s (Give x) t = (l : List Interval) → Fits s [] l → Fits t [] l × (still s [] l ≡ x ∷ still t [] l)
 StepsBeside s End t = (l : List Interval) → Fits s [] l → Fits t [] l × (still s [] l ≡ still t [] l) × (still s [] l ≡ [])
+
+-- the first interval was taken off the right side, where the left side gives nothing more, and what comes before it was handed out
+abbrev pub TakesOff : Merge → Interval → Option Interval → Merge → Type 0
+TakesOff s x given t = (after : List Interval) → Fits s [] (x ∷ after)
+    → Fits t [] after × Handed given (still s [] (x ∷ after)) (still t [] after)

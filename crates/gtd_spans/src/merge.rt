@@ -479,8 +479,8 @@ impl Merge {
 
 impl Merge {
     ghost use Rattle.std.specs.Prelude.{[], ◌∷◌, ◌≤◌, None};
-    ghost use Rattle.gtd_spans.specs.Merging.{StepsBeside};
-    ghost use Rattle.gtd_spans.specs.declared.merge.Side.TheVariants.{Ended};
+    ghost use Rattle.gtd_spans.specs.Merging.{StepsBeside, TakesOff};
+    ghost use Rattle.gtd_spans.specs.declared.merge.Side.TheVariants.{Open, Held, Ended};
 
     /// The difference of one span and the right side, before any step.
     pub fn beside(span: Span) -> Merge
@@ -495,6 +495,56 @@ impl Merge {
             right: Side::Open,
             kept: None,
         }
+    }
+
+    /// Takes the first span off the right side, which the last step asked for, where the left side gives nothing more. Returns what
+    /// the difference has before that span, if there is anything, and asks for the right side again.
+    #[inline(always)]
+    pub fn gap_before(&mut self, y: Span) -> Option<Span>
+        requires op { self.old.op ≡ Minus }
+        requires awaits { AwaitsRight self.old }
+        ensures op { self.new.op ≡ self.old.op }
+        ensures awaits { AwaitsRight self.new }
+        ensures gap { TakesOff self.old y result self.new }
+        ensures count { unended_sides self.new ≤ unended_sides self.old }
+    {
+        let left = self.left;
+        match left {
+            Side::Held(x) => self.part_before(x, y),
+            Side::Open => unreachable!(),
+            Side::Ended => None,
+        }
+    }
+
+    /// The same for the left span.
+    #[inline(always)]
+    fn part_before(&mut self, x: Span, y: Span) -> Option<Span>
+        requires op { self.old.op ≡ Minus }
+        requires left { self.old.left ≡ Held x }
+        requires right { self.old.right ≡ Open }
+        ensures op { self.new.op ≡ self.old.op }
+        ensures awaits { AwaitsRight self.new }
+        ensures gap { TakesOff self.old y result self.new }
+        ensures count { unended_sides self.new ≤ unended_sides self.old }
+    {
+        if y.until() <= x.from() {
+            return None;
+        }
+        if x.until() <= y.until() {
+            self.left = Side::Ended;
+            if x.until() <= y.from() {
+                return Some(x);
+            }
+            if x.from() < y.from() {
+                return Some(Span::between(x.from(), y.from()));
+            }
+            return None;
+        }
+        self.left = Side::Held(Span::between(y.until(), x.until()));
+        if x.from() < y.from() {
+            return Some(Span::between(x.from(), y.from()));
+        }
+        None
     }
 
     /// What a difference asks for, or has to give, if its left side gives nothing more. `Left` then asks for the right

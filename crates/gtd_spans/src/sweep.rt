@@ -37,7 +37,7 @@ impl Sweep {
     ghost use Rattle.gtd_spans.specs.declared.merge.Ask.TheVariants.{Left, Right};
     ghost use Rattle.gtd_spans.specs.Merging.{told_count};
     ghost use Rattle.gtd_spans.specs.Sweeping.{still, Fits, AwaitsLeft, AwaitsRight, HasOneSide, LeftEnded, RightEnded};
-    ghost use Rattle.gtd_spans.specs.Sweeping.{Steps, TellsLeft, TellsRight, unended_sides};
+    ghost use Rattle.gtd_spans.specs.Sweeping.{Steps, TakesOffLeft, TellsLeft, TellsRight, unended_sides};
     ghost use Rattle.gtd_spans.specs.Sweeping.{IsLeftGiven, IsRightGiven, GivesLeft, GivesRight};
     ghost use Rattle.std.specs.Prelude.{IfSome};
     ghost use Rattle.gtd_spans.specs.Inside.{AllInside};
@@ -162,6 +162,20 @@ impl Sweep {
             Sides::Both => self.merge.needs_right_from(),
             Sides::Left => None,
         }
+    }
+
+    /// Takes the first span off the side of a sweep that has one, which the last step asked for. Returns the next span of the
+    /// result, if that comes before the span, and asks for the side again: nothing is to be told.
+    #[inline(always)]
+    pub fn gap_before(&mut self, x: Span) -> Option<Span>
+        requires one_side { HasOneSide self.old }
+        requires awaits { AwaitsLeft self.old }
+        ensures one_side { HasOneSide self.new }
+        ensures awaits { AwaitsLeft self.new }
+        ensures gap { TakesOffLeft self.old x result self.new }
+        ensures count { unended_sides self.new ≤ unended_sides self.old }
+    {
+        self.merge.gap_before(x)
     }
 
     /// Hands in the first span still to come of the side that the last step asked for, or `None` if it has none. What
