@@ -3,6 +3,7 @@ pub mod BoundFacts
 pub mod ExtentLemmas
 pub mod JoinedStays
 pub mod FitLemmas
+pub mod GapFacts
 pub mod Leaves
 pub mod OnwardFacts
 pub mod PeriodChanges

@@ -76,7 +76,7 @@ both-inside bounds [] ys a b = b
 both-inside bounds (x ∷ xs) ys a b = (a.0, both-inside bounds xs ys a.1 b)
 
 -- one interval that was handed on
-one-on : {E T : Type 0} (takes : E → T → Interval → E → T → Bool → Type 0) (x : Interval) (into after : E) (taker then : T)
+pub one-on : {E T : Type 0} (takes : E → T → Interval → E → T → Bool → Type 0) (x : Interval) (into after : E) (taker then : T)
     (all : Bool) → takes into taker x after then all → HandsOn takes (x ∷ []) into taker [] after then all
 one-on takes x into after taker then true h = inr (after, then, h, (refl, refl, refl, refl))
 one-on takes x into after taker then false h = inl (h, refl, refl)

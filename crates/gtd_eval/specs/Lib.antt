@@ -6,6 +6,7 @@ pub mod Cursors
 pub mod Ever
 pub mod Exprs
 pub mod Extent
+pub mod Gaps
 pub mod Keeping
 pub mod Leaves
 pub mod Membership

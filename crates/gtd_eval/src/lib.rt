@@ -26,6 +26,7 @@ mod cursor;
 mod ever;
 mod expr_stays;
 mod extent;
+mod gaps;
 mod kept;
 pub mod laws;
 mod leaf;

@@ -2,9 +2,11 @@
 
 ghost use Rattle.std.specs.Prelude.{◌≡◌, [], ◌+◌, ◌<◌, ◌≤◌, IsTrue, length};
 ghost use Rattle.gtd_spans.specs.Sweeping.{still, AwaitsLeft, AwaitsRight, Fits, HasOneSide, unended_sides};
+ghost use Rattle.gtd_eval.specs.Gaps.{IsReadyForGap, TookGaps};
 ghost use Rattle.gtd_eval.specs.Nodes.{node_list, node_shape, node_whole, IsSoundNode};
 ghost use Rattle.gtd_eval.specs.Taking.{HandsOn, TakesSome};
 
+use crate::gaps::Gaps;
 use crate::leaf::Leaf;
 use crate::node::{Node, skip_left, skip_right};
 use crate::taker::SpanTaker;
@@ -209,6 +211,78 @@ fn each_of_two<L: Leaf, E, T: SpanTaker<E>>(
     }
 }
 
+// Hands on the gaps between the spans of a sweep over two nodes.
+#[inline(always)]
+fn each_gap_of_two<L: Leaf, E, T: SpanTaker<E>>(
+    within: &mut Sweep,
+    left: &mut Node<L>,
+    right: &mut Node<L>,
+    into: &mut E,
+    gaps: &mut Gaps<'_, T>,
+) -> (bool, Sweep)
+    requires left_sound { IsSoundNode L.Leaf left.old }
+    requires right_sound { IsSoundNode L.Leaf right.old }
+    requires fits { Fits within.old (node_list L.Leaf left.old) (node_list L.Leaf right.old) }
+    requires ready { IsReadyForGap T.is_ready into.old gaps.old.sweep gaps.old.taker.now
+        (still within.old (node_list L.Leaf left.old) (node_list L.Leaf right.old)) }
+    ensures left_sound { IsSoundNode L.Leaf left.new }
+    ensures right_sound { IsSoundNode L.Leaf right.new }
+    ensures fits { Fits within.new (node_list L.Leaf left.new) (node_list L.Leaf right.new) }
+    ensures same_taker { gaps.new.taker.ghost_name ≡ gaps.old.taker.ghost_name }
+    ensures took { TookGaps T.is_ready T.takes
+        (still within.old (node_list L.Leaf left.old) (node_list L.Leaf right.old))
+        (still within.new (node_list L.Leaf left.new) (node_list L.Leaf right.new))
+        into.old into.new gaps.old.sweep result.1 gaps.old.taker.now gaps.new.taker.now result.0 }
+    ensures left_shape { node_shape L.Leaf left.new ≡ node_shape L.Leaf left.old }
+    ensures right_shape { node_shape L.Leaf right.new ≡ node_shape L.Leaf right.old }
+    ensures left_whole { node_whole L.Leaf left.new ≡ node_whole L.Leaf left.old }
+    ensures right_whole { node_whole L.Leaf right.new ≡ node_whole L.Leaf right.old }
+{
+    let more = each_of_two(within, left, right, into, gaps);
+    (more, gaps.sweep)
+}
+
+// Hands on the gaps between the spans of a node, which a sweep asks for, if that is a sweep over two nodes and hands them on in a
+// loop.
+#[inline(always)]
+fn each_gap<L: Leaf, E, T: SpanTaker<E>>(
+    sweep: &mut Sweep,
+    inner: &mut Node<L>,
+    into: &mut E,
+    taker: &mut T,
+) -> bool
+    requires sound { IsSoundNode L.Leaf inner.old }
+    requires one_side { HasOneSide sweep.old }
+    requires awaits { AwaitsLeft sweep.old }
+    requires fits { Fits sweep.old (node_list L.Leaf inner.old) [] }
+    requires ready { T.is_ready into.old taker.old (still sweep.old (node_list L.Leaf inner.old) []) }
+    ensures sound { IsSoundNode L.Leaf inner.new }
+    ensures one_side { HasOneSide sweep.new }
+    ensures awaits { AwaitsLeft sweep.new }
+    ensures fits { Fits sweep.new (node_list L.Leaf inner.new) [] }
+    ensures takes { TakesSome T.takes (still sweep.old (node_list L.Leaf inner.old) []) into.old taker.old
+        (still sweep.new (node_list L.Leaf inner.new) []) into.new taker.new result }
+    ensures ready { IsTrue result → T.is_ready into.new taker.new (still sweep.new (node_list L.Leaf inner.new) []) }
+    ensures fewer { length (node_list L.Leaf inner.new) ≤ length (node_list L.Leaf inner.old) }
+    ensures no_more { length (still sweep.new (node_list L.Leaf inner.new) [])
+        ≤ length (still sweep.old (node_list L.Leaf inner.old) []) }
+    ensures count { unended_sides sweep.new ≤ unended_sides sweep.old }
+    ensures shape { node_shape L.Leaf inner.new ≡ node_shape L.Leaf inner.old }
+    ensures whole { node_whole L.Leaf inner.new ≡ node_whole L.Leaf inner.old }
+{
+    if let Node::Two(within, _, both) = inner {
+        let (left, right) = &mut **both;
+        let mut gaps = Gaps {
+            sweep: *sweep,
+            taker: &mut *taker,
+        };
+        let (more, swept) = each_gap_of_two(within, left, right, into, &mut gaps);
+        *sweep = swept;
+        return more;
+    }
+    true
+}
+
 // Hands on the spans of a sweep over one node.
 fn each_outside<L: Leaf, E, T: SpanTaker<E>>(
     sweep: &mut Sweep,
@@ -231,6 +305,9 @@ fn each_outside<L: Leaf, E, T: SpanTaker<E>>(
     loop {
         match sweep.step() {
             Ask::Left => {
+                if !each_gap(sweep, inner, into, taker) {
+                    return false;
+                }
                 let told = inner.next();
                 sweep.tell(told);
             }

@@ -1,21 +1,22 @@
--- What the sweep takes from its side leaves its own list as it was.
-use Rattle.std.proofs.Common.{◌∙◌, []}
+-- What the sweep takes from its side leaves its own list as it was, after the gaps that were handed on.
+use Rattle.std.proofs.Common.{◌∙◌, [], refl}
 use Rattle.gtd_eval.specs.Nodes.{node_list}
 use Rattle.gtd_eval.proofs.taking.each_outside.Goals as goal
 
-pub loop-inner-preserved-in-Left : goal.loop-inner-preserved-in-Left
-loop-inner-preserved-in-Left g c =
-    let old = c.loop-inner.invariant in
-    let kept = c.in-Left.ensures.steps.1 (node_list g.L.Leaf c.loop-inner.inner) [] old.fits in
-    let told = c.tell.ensures.left c.in-Left.ensures.steps.0 (node_list g.L.Leaf c.loop-inner.inner)
-    (node_list g.L.Leaf c.next-told.new.self) [] c.next-told.ensures.takes kept.0 in
-    let same = kept.1 ∙ told.1 in
+pub loop-sweep-preserved-in-Left : goal.loop-sweep-preserved-in-Left
+loop-sweep-preserved-in-Left g c =
+    let old = c.loop-sweep.invariant in
+    let gap = c.if-not-each_gap.ensures in
+    let kept = c.in-Left.ensures.steps.1 (node_list g.L.Leaf c.loop-sweep.inner) [] old.fits in
+    let told = c.tell.ensures.left gap.awaits (node_list g.L.Leaf c.each_gap.new.inner)
+    (node_list g.L.Leaf c.next-told.new.self) [] c.next-told.ensures.takes gap.fits in
     record {
       sound = c.next-told.ensures.sound;
-      one_side = c.tell.ensures.sides.1 (c.in-Left.ensures.sides.1 old.one_side);
+      one_side = c.tell.ensures.sides.1 gap.one_side;
       fits = told.0;
-      carries = λ left after then all h. old.carries left after then all (rw same h);
-      ready = rw same at old.ready;
-      shape = c.next-told.ensures.shape ∙ old.shape;
-      whole = c.next-told.ensures.whole ∙ old.whole;
+      carries = λ left after then all h.
+          old.carries left after then all (rw kept.1 (gap.takes left after then all (rw told.1 h)));
+      ready = rw told.1 at (gap.ready refl);
+      shape = c.next-told.ensures.shape ∙ gap.shape ∙ old.shape;
+      whole = c.next-told.ensures.whole ∙ gap.whole ∙ old.whole;
     }

@@ -5,8 +5,8 @@ use Rattle.gtd_eval.specs.Nodes.{node_list, node_whole, node_shape, IsSoundNode}
 use Rattle.gtd_eval.specs.Taking.{CarriesOn}
 use Rattle.gtd_eval.proofs.taking.each_outside.Given as goal
 
-abbrev pub invariant-loop-inner : goal.invariant-loop-inner
-invariant-loop-inner g l = record {
+abbrev pub invariant-loop-sweep : goal.invariant-loop-sweep
+invariant-loop-sweep g l = record {
   sound : IsSoundNode g.L.Leaf l.inner;
   one_side : HasOneSide l.sweep;
   fits : Fits l.sweep (node_list g.L.Leaf l.inner) [];
@@ -17,6 +17,6 @@ invariant-loop-inner g l = record {
   whole : node_whole g.L.Leaf l.inner ≡ node_whole g.L.Leaf l.initial.inner;
 }
 
-abbrev pub decreases-loop-inner : goal.decreases-loop-inner
-decreases-loop-inner g l = length (still l.sweep (node_list g.L.Leaf l.inner) [])
+abbrev pub decreases-loop-sweep : goal.decreases-loop-sweep
+decreases-loop-sweep g l = length (still l.sweep (node_list g.L.Leaf l.inner) [])
     + (length (node_list g.L.Leaf l.inner) + unended_sides l.sweep)
