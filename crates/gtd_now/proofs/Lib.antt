@@ -8,3 +8,4 @@ pub mod ObjectFacts
 pub mod ReadBack
 pub mod ShownFacts
 pub mod StampFacts
+pub mod WantedFacts

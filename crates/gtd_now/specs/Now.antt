@@ -1,6 +1,7 @@
 -- The state of road elements at a moment, as a text in a form: of all elements, or of some of them.
 use Rattle.std.specs.Prelude.{◌≡◌, ◌==◌, ◌++◌, ℕ, Bool, true, false, IfSome, IsTrue, List, [], ◌∷◌, Option}
 use Rattle.std.specs.List.{list_any}
+use Rattle.std.specs.List.Sorted.{IsNonDecreasing}
 use Rattle.gtd_records.specs.Closing.{IsOpen, Restriction}
 use Rattle.gtd_rows.specs.declared.direction.Direction.{Direction}
 use Rattle.gtd_report.specs.Putting.{IsByElement}
@@ -38,6 +39,10 @@ entry_in form.Table why lines found element direction vehicle state =
 abbrev pub is_wanted : List ℕ → ℕ → Bool
 is_wanted [] element = true
 is_wanted (first ∷ rest) element = list_any (λ wanted. wanted == element) (first ∷ rest)
+
+-- the second list is in ascending order, and asks about the same elements
+abbrev pub AreInOrder : List ℕ → List ℕ → Type 0
+AreInOrder wanted ordered = IsNonDecreasing ordered × ((element : ℕ) → is_wanted ordered element ≡ is_wanted wanted element)
 
 -- the lines that are told of a file's rows: none, if the rows are not told
 abbrev pub AreToldLines : Bool → List ℕ → List ℕ → Type 0

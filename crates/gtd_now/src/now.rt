@@ -1,11 +1,12 @@
 //! Putting the entry of an element in a direction, if it is asked about.
 
 ghost use Rattle.std.specs.Prelude.{◌≡◌, ◌↔◌, ◌+◌, ◌<◌, ◌≤◌, ◌++◌, ◌^◌, length, IfOk, IsTrue, OnOk};
+ghost use Rattle.std.specs.List.Sorted.{IsNonDecreasing};
 ghost use Rattle.gtd_core.specs.Limits.{most_rows};
 ghost use Rattle.gtd_core.specs.Seconds.{IsHorizonSecond};
 ghost use Rattle.gtd_report.specs.Putting.{PutsText, failures_after_stop, most_direction_bytes};
 ghost use Rattle.gtd_now.specs.Now as spec;
-ghost use Rattle.gtd_now.specs.Now.{AreEntries, IsEntry, IsShown, entry_in, told};
+ghost use Rattle.gtd_now.specs.Now.{AreEntries, AreInOrder, IsEntry, IsShown, entry_in, told};
 ghost use Rattle.gtd_now.specs.Query.{query_of};
 ghost use Rattle.gtd_states.specs.Known.{AreRight};
 ghost use Rattle.gtd_states.specs.States.{IsState, state_of};
@@ -26,32 +27,50 @@ use std::alloc::{AllocError, Global};
 // No memory holds an entry of so many bytes: the bound keeps the count of all bytes within its type.
 const MOST_ENTRY_BYTES: usize = 1_009_829_376_000;
 
-/// What is shown of a file: what is asked about, the lines that are told of its rows, which are none if the rows are not told,
-/// and when some of its elements change next.
+/// What is shown of a file: what is asked about, the elements of that in ascending order, the lines that are told of its rows,
+/// which are none if the rows are not told, and when some of its elements change next.
 #[derive(Clone, Copy)]
 pub(crate) struct View<'a> {
     pub(crate) asked: Asked<'a>,
+    pub(crate) ordered: &'a [u64],
     pub(crate) lines: &'a [u64],
     pub(crate) found: &'a Records,
     pub(crate) known: &'a [KnownChange],
 }
 
-// Whether an element is one of those that are asked about. If none is named, all are.
-fn is_wanted(wanted: &[u64], element: u64) -> bool
-    ensures { result ≡ spec.is_wanted wanted.now element }
+/// The elements that are asked about, in ascending order: so each is found among many in few steps.
+pub(crate) fn in_order(alloc: Global, wanted: &[u64]) -> Result<Vec<u64>, AllocError>
+    ensures order { IfOk result (λ ordered. AreInOrder wanted.now ordered.items) }
 {
-    match wanted.split_first() {
-        Some(_) => wanted.contains(&element),
+    let mut ordered = Vec::new(alloc);
+    ordered.extend_from_slice(wanted)?;
+    ordered.sort_unstable();
+    Ok(ordered)
+}
+
+// Whether an element is one of those that are asked about, which are in ascending order. If none is named, all are.
+fn is_wanted(ordered: &[u64], element: u64) -> bool
+    requires order { IsNonDecreasing ordered.now }
+    ensures wanted { result ≡ spec.is_wanted ordered.now element }
+{
+    match ordered.split_first() {
+        Some(_) => ordered.binary_search(&element).is_ok(),
         None => true,
     }
 }
 
 /// Whether the entry of an element in a direction is put.
-pub(crate) fn is_shown(found: &Records, at: DirectedElement, asked: &Asked<'_>) -> bool
-    requires { IsHorizonSecond asked.now.second.0 }
+pub(crate) fn is_shown(
+    found: &Records,
+    at: DirectedElement,
+    asked: &Asked<'_>,
+    ordered: &[u64],
+) -> bool
+    requires second { IsHorizonSecond asked.now.second.0 }
+    requires order { AreInOrder asked.now.elements.now ordered.now }
     ensures { IsTrue result ↔ IsShown found.now (query_of asked.now) at.element at.direction }
 {
-    if !is_wanted(asked.elements, at.element) {
+    if !is_wanted(ordered, at.element) {
         return false;
     }
     if !asked.closed {
@@ -170,6 +189,7 @@ pub(crate) fn put_state<O: Output>(
 ) -> Result<(), Stop>
     requires countable { O.failure_count output.old < u64.MAX }
     requires in_range { IsHorizonSecond view.now.asked.second.0 }
+    requires order { AreInOrder view.now.asked.elements.now view.now.ordered.now }
     requires right { AreRight view.now.found.now view.now.asked.vehicle view.now.asked.second.0 view.now.known.now }
     requires written { printer.old.progress.written + most_direction_bytes < 2 ^ 64 }
     requires lines { printer.old.progress.lines + 1 < 2 ^ 64 }
@@ -180,7 +200,7 @@ pub(crate) fn put_state<O: Output>(
     ensures failures { O.failure_count output.new
         ≡ failures_after_stop result (O.failure_count output.old) }
 {
-    if !is_shown(view.found, at, &view.asked) {
+    if !is_shown(view.found, at, &view.asked, view.ordered) {
         return Ok(());
     }
     write_entry(printer.alloc, &mut printer.line, at, view)?;

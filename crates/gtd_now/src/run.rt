@@ -6,13 +6,13 @@ ghost use Rattle.gtd_core.specs.Seconds.{IsHorizonSecond};
 ghost use Rattle.gtd_report.specs.Run.{AcceptedFilesArePut, HasRun, RefusedFilesPutNothing, failures_after_read};
 ghost use Rattle.gtd_report.specs.Run.{failures_after_write, IsVehicleType};
 ghost use Rattle.gtd_now.specs.Now as spec;
-ghost use Rattle.gtd_now.specs.Now.{AreEntries, AreToldLines, IsNow, IsNowOf};
+ghost use Rattle.gtd_now.specs.Now.{AreEntries, AreInOrder, AreToldLines, IsNow, IsNowOf};
 ghost use Rattle.gtd_now.specs.Query.{query_of};
 ghost use Rattle.gtd_now.specs.Run.{TellsVehicle, entries_of};
 ghost use Rattle.gtd_states.specs.Known.{AreRight};
 
 use crate::asked::{Asked, Form};
-use crate::now::{View, is_shown, put_state};
+use crate::now::{View, in_order, is_shown, put_state};
 use crate::shown::Shown;
 use gtd_core::limits::MOST_FILE_BYTES;
 use gtd_devices::{Input, Output, read_whole};
@@ -33,12 +33,13 @@ const FEW: usize = 16;
 /// Memory was refused before anything was put.
 const NO_MEMORY: RunFault = RunFault::NoMemory { written: 0 };
 
-/// The state of the elements that are asked about, in each direction. The second is on a day that a horizon may have, and what is
-/// known of changes is right.
+/// The state of the elements that are asked about, in each direction. The second is on a day that a horizon may have, the elements
+/// are in ascending order, and what is known of changes is right.
 #[derive(Clone, Copy)]
 struct State<'a> {
     view: View<'a>,
     ghost in_range: { IsHorizonSecond view.asked.second.0 },
+    ghost order: { AreInOrder view.asked.elements.now view.ordered.now } by { Prim.hlevel props },
     ghost right: { AreRight view.found.now view.asked.vehicle view.asked.second.0 view.known.now } by { Prim.hlevel props },
 }
 
@@ -120,10 +121,12 @@ fn push_shown(
     found: &Records,
     at: DirectedElement,
     asked: &Asked<'_>,
+    ordered: &[u64],
 ) -> Result<(), AllocError>
     requires in_range { IsHorizonSecond asked.now.second.0 }
+    requires order { AreInOrder asked.now.elements.now ordered.now }
 {
-    if is_shown(found, at, asked) {
+    if is_shown(found, at, asked, ordered) {
         shown.push(at)?;
     }
     Ok(())
@@ -134,8 +137,10 @@ fn shown_of(
     alloc: Global,
     found: &Records,
     asked: &Asked<'_>,
+    ordered: &[u64],
 ) -> Result<Vec<DirectedElement>, AllocError>
     requires in_range { IsHorizonSecond asked.now.second.0 }
+    requires order { AreInOrder asked.now.elements.now ordered.now }
 {
     let mut shown = Vec::new(alloc);
     for element in found.elements() {
@@ -143,12 +148,12 @@ fn shown_of(
             element: *element,
             direction: Direction::Positive,
         };
-        push_shown(&mut shown, found, positive, asked)?;
+        push_shown(&mut shown, found, positive, asked, ordered)?;
         let negative = DirectedElement {
             element: *element,
             direction: Direction::Negative,
         };
-        push_shown(&mut shown, found, negative, asked)?;
+        push_shown(&mut shown, found, negative, asked, ordered)?;
     }
     Ok(shown)
 }
@@ -158,11 +163,13 @@ fn known_changes(
     alloc: Global,
     found: &Records,
     asked: &Asked<'_>,
+    ordered: &[u64],
 ) -> Result<Vec<KnownChange>, AllocError>
     requires in_range { IsHorizonSecond asked.now.second.0 }
+    requires order { AreInOrder asked.now.elements.now ordered.now }
     ensures right { IfOk result (λ known. AreRight found.now asked.now.vehicle asked.now.second.0 known.items) }
 {
-    let shown = shown_of(alloc, found, asked)?;
+    let shown = shown_of(alloc, found, asked, ordered)?;
     if shown.len() < FEW {
         return Ok(Vec::new(alloc));
     }
@@ -200,13 +207,18 @@ fn put_now<O: Output>(
         Ok(lines) => lines,
         Err(_) => return Err(NO_MEMORY),
     };
-    let known = match known_changes(alloc, &found, asked) {
+    let ordered = match in_order(alloc, asked.elements) {
+        Ok(ordered) => ordered,
+        Err(_) => return Err(NO_MEMORY),
+    };
+    let known = match known_changes(alloc, &found, asked, ordered.as_slice()) {
         Ok(known) => known,
         Err(_) => return Err(NO_MEMORY),
     };
     let state = State {
         view: View {
             asked: *asked,
+            ordered: ordered.as_slice(),
             lines: lines.as_slice(),
             found: &found,
             known: known.as_slice(),
