@@ -1,8 +1,8 @@
 -- Elements that are asked about, in ascending order: they are the same ones, and each is found in halves.
-use Rattle.std.proofs.Common.{◌≡◌, ◌∙◌, sym, refl, ap, arith, ◌<◌, ◌≤◌, ℕ, zero, suc, List, [], ◌∷◌, length, get_or, true, false, Bool}
+use Rattle.std.proofs.Common.{◌≡◌, sym, refl, arith, ◌<◌, ◌≤◌, ℕ, List, [], ◌∷◌, length, get_or, true, false}
 use Rattle.std.specs.Prelude.{◌==◌, Result, Ok, Err, MatchResult, is_ok}
 use Rattle.std.specs.List.{list_any}
-use Rattle.std.specs.List.Sorted.{IsBinarySearchResult, IsNonDecreasing, IsPermutation, IsSorted}
+use Rattle.std.specs.List.Sorted.{IsBinarySearchResult, IsNonDecreasing, IsPermutation}
 use Rattle.std.specs.Ordering.{nat_cmp}
 use Rattle.std.proofs.lemmas.List.Folds.{list_any_at, list_any_none}
 use Rattle.std.proofs.lemmas.List.Sorted.{length_permutation, list_any-IsPermutation, searched}

@@ -33,8 +33,8 @@ const FEW: usize = 16;
 /// Memory was refused before anything was put.
 const NO_MEMORY: RunFault = RunFault::NoMemory { written: 0 };
 
-/// The state of the elements that are asked about, in each direction. The second is on a day that a horizon may have, the elements
-/// are in ascending order, and what is known of changes is right.
+/// The state of the elements that are asked about, in each direction. The second is on a day that a horizon may have, the
+/// elements are in ascending order, and what is known of changes is right.
 #[derive(Clone, Copy)]
 struct State<'a> {
     view: View<'a>,
