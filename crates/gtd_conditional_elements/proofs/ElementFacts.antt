@@ -15,11 +15,14 @@ use Rattle.gtd_conditional_rows.specs.Types.{HasType, IsVehicle}
 use Rattle.gtd_conditional_rows.specs.declared.fault.RowsFault.{RowsFault}
 use Rattle.gtd_conditional_rows.specs.declared.row.Row.{Row}
 use Rattle.gtd_conditional_rows.specs.declared.step.Step.{Step}
-use Rattle.gtd_conditional_steps.specs.Closing.{IsClosedByTags}
+use Rattle.gtd_conditional_steps.specs.Closing.{IsClosedBy, IsClosedByTags}
+use Rattle.gtd_conditional_steps.specs.Hours as hours
+use Rattle.gtd_conditional_steps.specs.Sayings.{Saying, said_by}
+use Rattle.gtd_conditional_steps.specs.Steps.{AreStepsOf}
 use Rattle.gtd_conditional_steps.specs.declared.tag.Tag.{Tag}
 use Rattle.gtd_conditional_tags.specs.declared.groups.ElementItems.{ElementItems}
 use Rattle.gtd_conditional_elements.specs.Elements.{AreEach, AreElementRows, AreRowsBy, AreStepsBy, IsElement}
-use Rattle.gtd_conditional_elements.specs.Elements.{NeedTooManyBy, fault_in, rows_in, tags_of}
+use Rattle.gtd_conditional_elements.specs.Elements.{NeedTooMany, NeedTooManyBy, fault_in, rows_in, tags_of}
 use Rattle.gtd_conditional_elements.specs.declared.fault.ConditionsFault.{ConditionsFault}
 use Rattle.gtd_conditional_elements.specs.declared.found.ElementRow.{ElementRow}
 use Rattle.gtd_conditional_elements.specs.declared.tag.ReadTag.{ReadTag}
@@ -158,3 +161,40 @@ pub rows_added : {E : Type 0} (r : Result (Unit {0}) E) (means : List MeansRow) 
     × (new ≡ old ++ rows_in group.element answer) × (faults ≡ faults ++ fault_in answer))
 rows_added (Ok x) means group rows old new faults are put = (Ok rows, are, put, sym (append-nil faults))
 rows_added (Err why) means group rows old new faults are put = tt
+
+-- ---- tags in another order, which say the same
+
+module _ (means : List MeansRow) (one other : List Tag)
+    (said : (subject : Subject) (direction : Direction)
+    → said_by subject means direction one ≡ said_by subject means direction other)
+  where
+    same_rows_by : (subject : Subject) (rows : List Row) → AreRowsBy means subject one rows → AreRowsBy means subject other rows
+    same_rows_by subject rows r = record {
+      positive = r.positive;
+      negative = r.negative;
+      forward = subst (λ (l : List Saying). AreStepsOf means Positive l r.positive) (said subject Positive) r.forward;
+      backward = subst (λ (l : List Saying). AreStepsOf means Negative l r.negative) (said subject Negative) r.backward;
+      are = r.are;
+      closes = λ direction t s is.
+          subst (λ (l : List Saying). IsClosedByRow rows direction t s ↔ IsClosedBy means direction l t s)
+          (said subject direction) (r.closes direction t s is);
+    }
+
+    pub same_rows : (rows : List Row) → AreElementRows means one rows → AreElementRows means other rows
+    same_rows rows r = record {
+      access = r.access;
+      oneway = r.oneway;
+      of_access = same_rows_by Access r.access r.of_access;
+      of_oneway = same_rows_by Oneway r.oneway r.of_oneway;
+      whole = r.whole;
+    }
+
+    same_many_by : (hours.NeedTooMany one → hours.NeedTooMany other) → (subject : Subject) → NeedTooManyBy means subject one
+        → NeedTooManyBy means subject other
+    same_many_by many subject (inl h) = inl (many h)
+    same_many_by many subject (inr (direction, steps, are, h)) =
+        inr (direction, steps, subst (λ (l : List Saying). AreStepsOf means direction l steps) (said subject direction) are, h)
+
+    pub same_many : (hours.NeedTooMany one → hours.NeedTooMany other) → NeedTooMany means one → NeedTooMany means other
+    same_many many (inl h) = inl (same_many_by many Access h)
+    same_many many (inr h) = inr (same_many_by many Oneway h)

@@ -10,7 +10,7 @@ ghost use Rattle.gtd_conditional_elements.specs.Elements.{AreElementRows, AreRow
 use gtd_conditional_means::Means;
 use gtd_conditional_parts::Subject;
 use gtd_conditional_rows::{Row, RowsFault, rows_of, rows_of_both};
-use gtd_conditional_steps::{StepsFault, Tag, are_two_way, steps_of};
+use gtd_conditional_steps::{OrderedTags, StepsFault, Tag, are_two_way, steps_of};
 use gtd_rows::Direction;
 use std::alloc::{AllocError, Global};
 
@@ -29,14 +29,14 @@ fn rows_by_both(
     alloc: Global,
     means: &Means,
     subject: Subject,
-    tags: &[Tag],
+    tags: &OrderedTags,
 ) -> Result<Vec<Row>, RowsFault>
-    requires steps { (steps : List Step) → AreStepsBy means.now.rows.items subject tags.now Positive steps
-        → AreStepsBy means.now.rows.items subject tags.now Negative steps }
-    requires closed { (t : ℕ) (s : ℤ) → IsClosedByTags means.now.rows.items subject tags.now Positive t s
-        ↔ IsClosedByTags means.now.rows.items subject tags.now Negative t s }
-    ensures rows { IfOk result (λ rows. AreRowsBy means.now.rows.items subject tags.now rows.items) }
-    ensures too_many { result ≡ Err RowsFault.TooMany → NeedTooManyBy means.now.rows.items subject tags.now }
+    requires steps { (steps : List Step) → AreStepsBy means.now.rows.items subject tags.now.tags.items Positive steps
+        → AreStepsBy means.now.rows.items subject tags.now.tags.items Negative steps }
+    requires closed { (t : ℕ) (s : ℤ) → IsClosedByTags means.now.rows.items subject tags.now.tags.items Positive t s
+        ↔ IsClosedByTags means.now.rows.items subject tags.now.tags.items Negative t s }
+    ensures rows { IfOk result (λ rows. AreRowsBy means.now.rows.items subject tags.now.tags.items rows.items) }
+    ensures too_many { result ≡ Err RowsFault.TooMany → NeedTooManyBy means.now.rows.items subject tags.now.tags.items }
 {
     match steps_of(alloc, means, subject, tags, Direction::Positive) {
         Ok(steps) => rows_of_both(alloc, steps),
@@ -49,10 +49,10 @@ fn rows_by_each(
     alloc: Global,
     means: &Means,
     subject: Subject,
-    tags: &[Tag],
+    tags: &OrderedTags,
 ) -> Result<Vec<Row>, RowsFault>
-    ensures rows { IfOk result (λ rows. AreRowsBy means.now.rows.items subject tags.now rows.items) }
-    ensures too_many { result ≡ Err RowsFault.TooMany → NeedTooManyBy means.now.rows.items subject tags.now }
+    ensures rows { IfOk result (λ rows. AreRowsBy means.now.rows.items subject tags.now.tags.items rows.items) }
+    ensures too_many { result ≡ Err RowsFault.TooMany → NeedTooManyBy means.now.rows.items subject tags.now.tags.items }
 {
     let positive = match steps_of(alloc, means, subject, tags, Direction::Positive) {
         Ok(steps) => steps,
@@ -70,12 +70,12 @@ fn rows_by(
     alloc: Global,
     means: &Means,
     subject: Subject,
-    tags: &[Tag],
+    tags: &OrderedTags,
 ) -> Result<Vec<Row>, RowsFault>
-    ensures rows { IfOk result (λ rows. AreRowsBy means.now.rows.items subject tags.now rows.items) }
-    ensures too_many { result ≡ Err RowsFault.TooMany → NeedTooManyBy means.now.rows.items subject tags.now }
+    ensures rows { IfOk result (λ rows. AreRowsBy means.now.rows.items subject tags.now.tags.items rows.items) }
+    ensures too_many { result ≡ Err RowsFault.TooMany → NeedTooManyBy means.now.rows.items subject tags.now.tags.items }
 {
-    if are_two_way(tags) {
+    if are_two_way(tags.tags.as_slice()) {
         rows_by_both(alloc, means, subject, tags)
     } else {
         rows_by_each(alloc, means, subject, tags)
@@ -92,14 +92,10 @@ fn put_rows(rows: &mut Vec<Row>, others: Vec<Row>) -> Result<(), AllocError>
     Ok(())
 }
 
-/// The rows of an element with these tags: first those of access, then those of one-way traffic.
-pub(crate) fn rows_of_element(
-    alloc: Global,
-    means: &Means,
-    tags: &[Tag],
-) -> Result<Vec<Row>, RowsFault>
-    ensures rows { IfOk result (λ rows. AreElementRows means.now.rows.items tags.now rows.items) }
-    ensures too_many { result ≡ Err RowsFault.TooMany → NeedTooMany means.now.rows.items tags.now }
+// The rows of an element with these tags: first those of access, then those of one-way traffic.
+fn rows_in_order(alloc: Global, means: &Means, tags: &OrderedTags) -> Result<Vec<Row>, RowsFault>
+    ensures rows { IfOk result (λ rows. AreElementRows means.now.rows.items tags.now.tags.items rows.items) }
+    ensures too_many { result ≡ Err RowsFault.TooMany → NeedTooMany means.now.rows.items tags.now.tags.items }
 {
     let mut rows = match rows_by(alloc, means, Subject::Access, tags) {
         Ok(rows) => rows,
@@ -111,6 +107,21 @@ pub(crate) fn rows_of_element(
     };
     match put_rows(&mut rows, oneway) {
         Ok(()) => Ok(rows),
+        Err(_) => Err(RowsFault::NoMemory),
+    }
+}
+
+/// The rows of an element with these tags.
+pub(crate) fn rows_of_element(
+    alloc: Global,
+    means: &Means,
+    tags: Vec<Tag>,
+) -> Result<Vec<Row>, RowsFault>
+    ensures rows { IfOk result (λ rows. AreElementRows means.now.rows.items tags.items rows.items) }
+    ensures too_many { result ≡ Err RowsFault.TooMany → NeedTooMany means.now.rows.items tags.items }
+{
+    match OrderedTags::new(tags) {
+        Ok(tags) => rows_in_order(alloc, means, &tags),
         Err(_) => Err(RowsFault::NoMemory),
     }
 }

@@ -77,7 +77,7 @@ pub(crate) fn add_element(
 {
     let row = last_row(group.items.as_slice());
     let tags = tags_of(alloc, group.items)?;
-    match rows_of_element(alloc, means, tags.as_slice()) {
+    match rows_of_element(alloc, means, tags) {
         Ok(rows) => put_rows(&mut found.rows, group.element, rows),
         Err(why) => match why {
             RowsFault::TooMany => {

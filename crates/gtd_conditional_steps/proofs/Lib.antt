@@ -1,5 +1,6 @@
 pub mod ClosingLemmas
 pub mod StepLemmas
-pub mod ModeLemmas
+pub mod ModeFacts
+pub mod OrderFacts
 pub mod TermLemmas
 pub mod TwoWayLemmas

@@ -1,11 +1,14 @@
 -- Steps that are added, one list after another.
-use Rattle.std.proofs.Common.{◌≡◌, ◌∙◌, ap, sym, subst, List, [], ◌∷◌, ◌++◌, append_assoc}
+use Rattle.std.proofs.Common.{◌≡◌, ◌∙◌, ap, sym, subst, add-one, ℕ, ◌+◌, take, List, [], ◌∷◌, ◌++◌, append_assoc}
 use Rattle.std.proofs.lemmas.List.{append-nil}
 use Rattle.gtd_rows.specs.declared.direction.Direction.{Direction}
 use Rattle.gtd_conditional_means.specs.declared.meaning.MeansRow.{MeansRow}
 use Rattle.gtd_conditional_rows.specs.declared.step.Step.{Step}
-use Rattle.gtd_conditional_steps.specs.Sayings.{Saying}
+use Rattle.gtd_conditional_parts.specs.declared.said.Subject.{Subject}
+use Rattle.gtd_conditional_steps.specs.Sayings.{Saying, mode_types, said_before, said_by_types}
 use Rattle.gtd_conditional_steps.specs.Steps.{Adds, AreStepsOf, IsStepOf}
+use Rattle.gtd_conditional_steps.specs.declared.tag.Tag.{Tag}
+use Rattle.gtd_conditional_steps.proofs.ModeFacts.{IsSplit, SayTheRest, said_here}
 
 module _ (rows : List MeansRow) (direction : Direction) where
   append : (one two : List Saying) (as' bs : List Step) → AreStepsOf rows direction one as' → AreStepsOf rows direction two bs
@@ -48,3 +51,17 @@ module _ (rows : List MeansRow) (direction : Direction) where
   behind before here xs ys are adds =
       subst (λ (zs : List Step). AreStepsOf rows direction (before ++ here) zs) (sym adds.1)
       (append before here xs adds.0 are adds.2)
+
+-- the steps of a mode, whose tags come first among those that are left
+pub added_here : (subject : Subject) (rows : List MeansRow) (mode count : ℕ) (way : Direction) (left tags same : List Tag)
+    → IsSplit mode left count → SayTheRest mode left tags → same ≡ take count left → (old new : List Step)
+    → AreStepsOf rows way (said_before mode subject rows way tags) old
+    → Adds rows way (said_by_types (mode_types subject rows mode) mode way same) old new
+    → AreStepsOf rows way (said_before (mode + 1) subject rows way tags) new
+added_here subject rows mode count way left tags same is rest front old new are adds =
+    let types = mode_types subject rows mode in
+    let own : said_by_types types mode way same ≡ said_by_types types mode way tags =
+    ap (said_by_types types mode way) front ∙ said_here types mode count way left tags is rest in
+    subst (λ (n : ℕ). AreStepsOf rows way (said_before n subject rows way tags) new) (sym (add-one mode))
+    (behind rows way (said_before mode subject rows way tags) (said_by_types types mode way tags) old new are
+    (subst (λ (l : List Saying). Adds rows way l old new) own adds))

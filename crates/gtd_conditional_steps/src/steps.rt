@@ -1,6 +1,7 @@
 //! The steps of tags.
 
 ghost use Rattle.std.specs.Prelude.{◌≡◌, ◌↔◌, ◌∷◌, ◌++◌, [], ℕ, ℤ, false, true, Err, IfOk, OnOk, if◌then◌else◌};
+ghost use Rattle.std.specs.List.Sorted.{IsNonDecreasingBy};
 ghost use Rattle.gtd_conditional_rows.specs.Steps.{IsClosed};
 ghost use Rattle.gtd_conditional_rows.specs.Types.{IsVehicle};
 ghost use Rattle.gtd_conditional_steps.specs.Closing.{IsClosedByTags};
@@ -11,7 +12,8 @@ ghost use Rattle.gtd_conditional_steps.specs.Steps.{Adds, AreStepsOf, IsStepOf};
 use crate::count::need_too_many;
 use crate::hours::hours_of;
 use crate::keys::{Key, is_of_key, mode_types};
-use crate::modes::first_mode;
+use crate::modes::{count_of, next_mode};
+use crate::ordered::OrderedTags;
 use crate::tag::{StepsFault, Tag};
 use crate::types::types_for;
 use gtd_conditional_means::Means;
@@ -183,17 +185,22 @@ fn push_row(
     }
 }
 
-// The steps of all rows. Rows of modes that no tag has are passed over: a table may have thousands of them.
+// The steps of all rows. Rows of modes that no tag has are passed over, and each mode goes over its own tags alone: a table may
+// have thousands of modes, and an element as many tags.
 fn all_steps(asked: Asked<'_>, subject: Subject, tags: &[Tag]) -> Result<Vec<Step>, StepsFault>
+    requires order { IsNonDecreasingBy (λ tag. tag.mode) tags.now }
     ensures { IfOk result (λ steps. AreStepsOf asked.entry.means.now.rows.items asked.entry.direction
         (spec.said_by subject asked.entry.means.now.rows.items asked.entry.direction tags.now) steps.items) }
 {
     let mut steps = Vec::new(asked.alloc);
     let end = asked.means.rows.len();
-    let mut mode = first_mode(tags, 0, end);
+    let mut rest = tags;
+    let mut mode = next_mode(rest, end);
     while mode < end {
-        push_row(&mut steps, asked, subject, mode, tags)?;
-        mode = first_mode(tags, mode + 1, end);
+        let (same, later) = rest.split_at(count_of(rest, mode));
+        push_row(&mut steps, asked, subject, mode, same)?;
+        rest = later;
+        mode = next_mode(rest, end);
     }
     Ok(steps)
 }
@@ -205,15 +212,16 @@ pub fn steps_of(
     alloc: Global,
     means: &Means,
     subject: Subject,
-    tags: &[Tag],
+    tags: &OrderedTags,
     direction: Direction,
 ) -> Result<Vec<Step>, StepsFault>
     ensures steps { IfOk result (λ steps. AreStepsOf means.now.rows.items direction
-        (spec.said_by subject means.now.rows.items direction tags.now) steps.items) }
+        (spec.said_by subject means.now.rows.items direction tags.now.tags.items) steps.items) }
     ensures closed { IfOk result (λ steps. (t : ℕ) (s : ℤ) → IsVehicle t
-        → IsClosed steps.items t s ↔ IsClosedByTags means.now.rows.items subject tags.now direction t s) }
-    ensures too_many { (result ≡ Err StepsFault.TooMany) ↔ NeedTooMany tags.now }
+        → IsClosed steps.items t s ↔ IsClosedByTags means.now.rows.items subject tags.now.tags.items direction t s) }
+    ensures too_many { (result ≡ Err StepsFault.TooMany) ↔ NeedTooMany tags.now.tags.items }
 {
+    let tags = tags.tags.as_slice();
     if need_too_many(tags) {
         return Err(StepsFault::TooMany);
     }

@@ -9,8 +9,9 @@ returns-in-Ok c =
     let backward = c.requires.steps c.in-Ok.steps.items forward.steps in
     let made = c.rows_of_both.ensures in
     record {
-      rows = both_made c.rows_of_both.result (λ found. found.items) c.args.means.now.rows.items c.args.subject c.args.tags.now
-          c.in-Ok.steps.items forward.steps backward made.rows made.closed forward.closed c.requires.closed;
-      too_many = λ is. need_too_many c.args.means.now.rows.items c.args.subject c.args.tags.now c.in-Ok.steps.items
+      rows = both_made c.rows_of_both.result (λ found. found.items) c.args.means.now.rows.items c.args.subject
+          c.args.tags.now.tags.items c.in-Ok.steps.items forward.steps backward made.rows made.closed forward.closed
+          c.requires.closed;
+      too_many = λ is. need_too_many c.args.means.now.rows.items c.args.subject c.args.tags.now.tags.items c.in-Ok.steps.items
           c.in-Ok.steps.items forward.steps backward (inl (made.too_many.0 is));
     }

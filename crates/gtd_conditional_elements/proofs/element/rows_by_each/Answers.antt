@@ -8,9 +8,9 @@ returns c =
     let backward = c.in-Ok-steps_of.ensures in
     let made = c.rows_of.ensures in
     record {
-      rows = rows_made c.rows_of.result (λ found. found.items) c.args.means.now.rows.items c.args.subject c.args.tags.now
-          c.in-Ok.steps.items c.in-Ok-steps_of.steps.items forward.steps backward.steps made.rows made.closed forward.closed
-          backward.closed;
-      too_many = λ is. need_too_many c.args.means.now.rows.items c.args.subject c.args.tags.now c.in-Ok.steps.items
+      rows = rows_made c.rows_of.result (λ found. found.items) c.args.means.now.rows.items c.args.subject
+          c.args.tags.now.tags.items c.in-Ok.steps.items c.in-Ok-steps_of.steps.items forward.steps backward.steps made.rows
+          made.closed forward.closed backward.closed;
+      too_many = λ is. need_too_many c.args.means.now.rows.items c.args.subject c.args.tags.now.tags.items c.in-Ok.steps.items
           c.in-Ok-steps_of.steps.items forward.steps backward.steps (made.too_many.0 is);
     }

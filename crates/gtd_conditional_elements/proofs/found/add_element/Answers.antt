@@ -11,15 +11,15 @@ pub returns-in-Ok : goal.returns-in-Ok
 returns-in-Ok c =
     let means = c.args.means.now.rows.items in
     let rows = c.in-Ok.rows.items in
-    let same : c.as_slice-2.result.now ≡ tags_of c.args.group.items.items = c.as_slice-2.ensures.value ∙ c.in_ok-tags.ensures in
+    let same : c.in_ok-tags.tags.items ≡ tags_of c.args.group.items.items = c.in_ok-tags.ensures in
     rows_added c.put_rows.result means c.args.group rows c.args.found.now.rows.items c.put_rows.new.rows.items
     c.args.found.now.faults.items (subst (λ (tags : List Tag). AreElementRows means tags rows) same c.in-Ok.ensures.rows)
     c.put_rows.ensures
 
-pub returns-in-TooMany : goal.returns-in-TooMany
-returns-in-TooMany c =
+pub returns-in_ok-push-in-TooMany : goal.returns-in_ok-push-in-TooMany
+returns-in_ok-push-in-TooMany c =
     let means = c.args.means.now.rows.items in
-    let same : c.as_slice-2.result.now ≡ tags_of c.args.group.items.items = c.as_slice-2.ensures.value ∙ c.in_ok-tags.ensures in
+    let same : c.in_ok-tags.tags.items ≡ tags_of c.args.group.items.items = c.in_ok-tags.ensures in
     let many = c.in-Err.ensures.too_many (ap Err c.in-TooMany.is) in (
       Err (fault.TooMany c.last_row-row.result),
       (
