@@ -562,6 +562,13 @@ def hours_rows(folder):
                ["2025-01-01,2026-12-31,PH-covered,\n", *(f"{year}-12-25,,PH,\n" for year in (2025, 2026))])
     yield case("eleven years covered day by day, the last first", "2020-2030", days,
                [*reversed(each_day), *(f"{year}-12-25,,PH,\n" for year in range(2020, 2031))])
+    spans = (f"1990-{n % 12 + 1:02}-{n % 28 + 1:02},2087-{n % 12 + 1:02}-{n % 28 + 1:02},PH,\n" for n in range(4_000))
+    table = folder.file("long_holidays", "first,last,kind,name\n1990-01-01,2087-12-31,PH-covered,\n" + "".join(spans))
+    for rows, off in ((1, "; PH off" * 60), (2_000, "; PH off")):
+        text = folder.file(f"long_holidays_{rows}", "element,direction,vehicles,hours\n"
+                           + "".join(f"{n},both,0,Mo-Fr 08:00-18:00{off}\n" for n in range(rows)))
+        words = ["records", "--holidays", table, "--years", "1990-2087", text]
+        yield desk(f"{rows:,} rows, 4,000 rows of holidays of 98 years", words, rows * off.count("PH") * 35_793, "days of the years")
 
 
 def hours_texts(folder):
