@@ -4,7 +4,7 @@
 #   libgtd.a       one object that needs nothing but the C library
 #   libgtd.so.0    the shared library, and libgtd.so, a copy of it for the linker
 #   include        the headers for C and C++
-#   gtd.pc         for pkg-config, to use them where they are
+#   gtd.pc         for pkg-config, to use them where they are; gtd-config.cmake and gtd-config-version.cmake for CMake
 #   lacks          the calls of the header that the crate does not export, a line for each: none, if the library is whole
 # Both libraries export exactly the other calls of the header. It needs gcc and the GNU linker.
 # Usage: bindings/build.sh
@@ -47,4 +47,6 @@ cp "$out/libgtd.so.0" "$out/libgtd.so"
 
 mkdir -p "$out/include"
 cp "$top/bindings/c/gtd.h" "$top/bindings/cpp/gtd.hpp" "$out/include"
-sed -e "s|@libdir@|$out|; s|@includedir@|$out/include|; s|@version@|$version|" "$top/bindings/c/gtd.pc.in" > "$out/gtd.pc"
+for name in gtd.pc gtd-config.cmake gtd-config-version.cmake; do
+    sed -e "s|@libdir@|$out|; s|@includedir@|$out/include|; s|@version@|$version|" "$top/bindings/c/$name.in" > "$out/$name"
+done

@@ -89,9 +89,13 @@ put_headers() {
     put 644 "$libraries" "$out/libgtd.a"
     strip --strip-debug --enable-deterministic-archives "$root/$libraries/libgtd.a"
     ln -s libgtd.so.0 "$root/$libraries/libgtd.so"
-    mkdir -p "$root/$libraries/pkgconfig"
-    sed "s|@libdir@|/$libraries|; s|@includedir@|/usr/include|; s|@version@|$version|" "$top/bindings/c/gtd.pc.in" \
-        > "$root/$libraries/pkgconfig/gtd.pc"
+    local file name
+    mkdir -p "$root/$libraries/pkgconfig" "$root/$libraries/cmake/gtd"
+    for file in pkgconfig/gtd.pc cmake/gtd/gtd-config.cmake cmake/gtd/gtd-config-version.cmake; do
+        name=${file##*/}
+        sed "s|@libdir@|/$libraries|; s|@includedir@|/usr/include|; s|@version@|$version|" "$top/bindings/c/$name.in" \
+            > "$root/$libraries/$file"
+    done
     put 644 usr/share/doc/libgtd-dev "$top/docs/LIBRARY.md"
     put 644 usr/share/doc/libgtd-dev/examples "$top"/bindings/c/*.c "$top"/bindings/cpp/*.cpp
     put_notes

@@ -15,7 +15,7 @@ esac
 export RT_JOBS=${RT_JOBS:-$(tests/jobs.sh)}
 
 # Programs and modules of Python that the parts need; each is in a package of tests/setup.sh.
-needed=(gcc g++ ld cargo valgrind pkg-config python3 mandoc zsh openssl mount osmium chromium rsvg-convert xmllint pngtopnm
+needed=(gcc g++ ld cargo cmake valgrind pkg-config python3 mandoc zsh openssl mount osmium chromium rsvg-convert xmllint pngtopnm
     make sqlite3 ogr2ogr pg_config)
 [ "$(id -u)" = 0 ] || needed+=(fakeroot)
 modules='build, cryptography, dask.dataframe, dateutil, distributed, fiona, geopandas, gi, icalendar, mypy, osmium, pandas'

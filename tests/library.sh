@@ -100,6 +100,27 @@ succeeds 'planner.cpp' cpp -o "$room/planner" "$top/bindings/cpp/planner.cpp" "$
 read -ra flags <<< "$(PKG_CONFIG_PATH=$out pkg-config --cflags --libs gtd)"
 succeeds 'example.c by pkg-config' c -o "$room/example" "$top/bindings/c/example.c" "${flags[@]}" -Wl,-rpath,"$out"
 succeeds 'example.cpp by pkg-config' cpp -o "$room/example_cpp" "$top/bindings/cpp/example.cpp" "${flags[@]}" -Wl,-rpath,"$out"
+
+# with_cmake VERSION FOLDER: a project of CMake that asks for this version, with the shared and with the static library.
+with_cmake() {
+    mkdir -p "$2"
+    printf '%s\n' 'cmake_minimum_required(VERSION 3.16)' 'project(first LANGUAGES C CXX)' "find_package(gtd $1 REQUIRED)" \
+        "add_executable(shared $top/bindings/c/example.c)" 'target_link_libraries(shared PRIVATE gtd::gtd)' \
+        "add_executable(static $top/bindings/cpp/example.cpp)" 'target_link_libraries(static PRIVATE gtd::static)' \
+        'target_compile_features(static PRIVATE cxx_std_17)' > "$2/CMakeLists.txt"
+    cmake -S "$2" -B "$2/build" -Dgtd_DIR="$out" && cmake --build "$2/build"
+}
+succeeds 'CMake' with_cmake 0.1 "$room/cmake"
+for example in shared static; do
+    succeeds "the $example example by CMake" "$room/cmake/build/$example" "$top/examples/restrictions.csv" 17 11
+done
+for version in 0.2 1 0.1.999; do
+    if with_cmake $version "$room/cmake_$version" > "$room/said" 2>&1; then
+        fail "CMake: version $version was found" "$room/said"
+    else
+        pass 1
+    fi
+done
 [ "$failed" = 0 ] || { echo "library: $passed passed, $failed failed"; exit 1; }
 
 # agree NAME ANSWERS PROGRAM..: the program answers the questions of $room/asked so, line by line.

@@ -1,7 +1,7 @@
 #!/usr/bin/env bash
 # Installs what the tests need besides Rattle's kit, from Debian's packages:
 #   gcc, libc6-dev   tests/refusals.sh and tests/failing.sh compile the libraries that refuse memory and make calls fail
-#   g++, binutils, cargo, valgrind, pkgconf
+#   g++, binutils, cargo, cmake, valgrind, pkgconf
 #                    tests/library.sh builds programs with the library, and checks their memory; tests/packaging.sh
 #   python3          tests/statement.py, tests/rows.py, tests/fuzz.py, tests/hours.py, tests/press_tab.py
 #   mandoc           tests/packaging.sh lints the man pages
@@ -25,7 +25,7 @@
 #                    tests/sql.sh builds the extensions of databases and asks them; bench/sql.py
 # Run it as root, or as a user who may call sudo. tests/all.sh calls it where something is missing.
 set -eu
-packages=(gcc libc6-dev g++ binutils cargo valgrind pkgconf python3 mandoc zsh fakeroot
+packages=(gcc libc6-dev g++ binutils cargo cmake valgrind pkgconf python3 mandoc zsh fakeroot
     python3-pandas python3-geopandas python3-dask python3-distributed python3-cryptography python3-pyosmium osmium-tool
     python3-dateutil tzdata python3-icalendar python3-recurring-ical-events gir1.2-ical-3.0 python3-gi
     python3-pytest mypy python3-build python3-setuptools python3-wheel python3-venv openssl mount
