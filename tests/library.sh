@@ -232,6 +232,16 @@ cat > "$room/text" << 'END'
 END
 prints 'example.c' "$room/week" "$room/example" "$top/examples/town.csv" 103 11
 prints 'example.cpp' "$room/week" "$room/example_cpp" "$top/examples/town.csv" 103 11
+for example in example example_cpp; do
+    for words in '103 267' '103 11x' '103 -245' '1x 11' '99999999999 11'; do
+        read -ra words <<< "$words"
+        if "$room/$example" "$top/examples/town.csv" "${words[@]}" > "$room/said" 2>&1; then
+            fail "$example: ${words[*]} was read" "$room/said"
+        else
+            pass
+        fi
+    done
+done
 prints 'examples/closed.rs' "$room/day" cargo run "${crate[@]}" --example closed -- "$top/examples/town.csv" 103 11 2024 3 15
 prints 'examples/domain.rs' "$room/text" cargo run "${crate[@]}" --example domain -- '[(h25){h1}]'
 # block N: what the document shows in its N-th fenced block.

@@ -1,6 +1,7 @@
 /* What a planner does with a record file: reads it once, then asks. Usage: example FILE ELEMENT VEHICLE */
 #include "gtd.h"
 
+#include <errno.h>
 #include <inttypes.h>
 #include <stdio.h>
 #include <stdlib.h>
@@ -16,6 +17,14 @@ static uint8_t *read_file(const char *name, size_t *length) {
     if (bytes) *length = fread(bytes, 1, (size_t)size, file);
     fclose(file);
     return bytes;
+}
+
+/* The number of a word that has digits alone; false for another word, and for a number above the largest. */
+static bool number_of(const char *word, uint64_t largest, uint64_t *number) {
+    char *end = NULL;
+    errno = 0;
+    *number = strtoull(word, &end, 10);
+    return *word >= '0' && *word <= '9' && *end == '\0' && errno == 0 && *number <= largest;
 }
 
 /* Says why a file is refused, as gtd does. */
@@ -59,15 +68,17 @@ int main(int count, char **words) {
     gtd_handle records = GTD_NONE;
     gtd_record_fault fault;
     size_t length = 0;
+    uint64_t element, vehicle;
     int64_t now;
-    if (count != 4) return fputs("usage: example FILE ELEMENT VEHICLE\n", stderr), 2;
+    if (count != 4 || !number_of(words[2], 9999999999, &element) || !number_of(words[3], 99, &vehicle))
+        return fputs("usage: example FILE ELEMENT VEHICLE, of 1 to 10 digits and from 1 to 99\n", stderr), 2;
     uint8_t *bytes = read_file(words[1], &length);
     if (!bytes) return fprintf(stderr, "cannot read %s\n", words[1]), 3;
     uint32_t answer = gtd_records_open(&records, bytes, length, &fault);
     free(bytes); /* the records keep what they need */
     if (answer == GTD_NO) return tell(&fault), 1;
     if (answer == GTD_YES && (answer = gtd_second(2024, 3, 15, 6, 50, 0, &now)) == GTD_YES)
-        answer = ask(&records, strtoull(words[2], NULL, 10), (uint8_t)atoi(words[3]), now);
+        answer = ask(&records, element, (uint8_t)vehicle, now);
     gtd_close(&records);
     if (answer > GTD_YES) return fprintf(stderr, "answer %" PRIu32 "\n", answer), 3;
     return 0;

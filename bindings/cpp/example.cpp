@@ -1,10 +1,12 @@
 // What a planner does with a record file: reads it once, then asks. Usage: example FILE ELEMENT VEHICLE
 #include "gtd.hpp"
 
+#include <charconv>
 #include <exception>
 #include <fstream>
 #include <iostream>
 #include <iterator>
+#include <stdexcept>
 #include <string>
 
 static std::string read_file(const char *name) {
@@ -13,11 +15,21 @@ static std::string read_file(const char *name) {
     return {std::istreambuf_iterator<char>(file), std::istreambuf_iterator<char>()};
 }
 
+// The number of a word that has digits alone, and is at most the largest.
+static std::uint64_t number_of(const std::string &word, std::uint64_t largest) {
+    std::uint64_t number = 0;
+    const char *const last = word.data() + word.size();
+    const auto [end, error] = std::from_chars(word.data(), last, number);
+    if (error != std::errc() || end != last || number > largest)
+        throw std::invalid_argument(word + " is no number from 0 to " + std::to_string(largest));
+    return number;
+}
+
 int main(int count, char **words) try {
     if (count != 4) return std::cerr << "usage: example FILE ELEMENT VEHICLE\n", 2;
     gtd::Records records(read_file(words[1]));
-    const std::uint64_t element = std::stoull(words[2]);
-    const auto vehicle = static_cast<std::uint8_t>(std::stoul(words[3]));
+    const std::uint64_t element = number_of(words[2], 9'999'999'999);
+    const auto vehicle = static_cast<std::uint8_t>(number_of(words[3], 99));
     const std::int64_t now = gtd::second_of(2024, 3, 15, 6, 50), today = gtd::day_of(now);
 
     const bool closed = records.closed_at(element, gtd::Direction::positive, vehicle, now);

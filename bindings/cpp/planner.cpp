@@ -8,6 +8,7 @@
 #include "gtd.hpp"
 
 #include <algorithm>
+#include <charconv>
 #include <cstdio>
 #include <exception>
 #include <fstream>
@@ -46,13 +47,24 @@ std::string read_file(const char *name) {
     return {std::istreambuf_iterator<char>(file), std::istreambuf_iterator<char>()};
 }
 
+// The number of a word that has digits alone, and is at most the largest.
+std::uint64_t number_of(const std::string &word, std::uint64_t largest) {
+    std::uint64_t number = 0;
+    const char *const last = word.data() + word.size();
+    const auto [end, error] = std::from_chars(word.data(), last, number);
+    if (error != std::errc() || end != last || number > largest)
+        throw std::runtime_error(word + " is no number from 0 to " + std::to_string(largest));
+    return number;
+}
+
 Edge edge_of(const std::string &line) {
     std::istringstream cells(line);
     std::string from, to, element, direction, seconds;
     std::getline(cells, from, ',') && std::getline(cells, to, ',') && std::getline(cells, element, ',') &&
         std::getline(cells, direction, ',') && std::getline(cells, seconds);
     if (direction != "positive" && direction != "negative") throw std::runtime_error("no edge: " + line);
-    Edge edge{from, to, std::stoull(element), gtd::Direction(direction == "negative"), std::stoll(seconds)};
+    const auto lasts = static_cast<std::int64_t>(number_of(seconds, 9'999'999'999));
+    Edge edge{from, to, number_of(element, 9'999'999'999), gtd::Direction(direction == "negative"), lasts};
     if (edge.seconds < 1) throw std::runtime_error("no edge: " + line);
     return edge;
 }
@@ -147,7 +159,7 @@ int main(int count, char **words) try {
     if (count != 7) return std::cerr << "usage: planner NETWORK RESTRICTIONS FROM TO MOMENT VEHICLE\n", 2;
     const std::vector<Edge> edges = read_network(words[1]);
     gtd::Records records(read_file(words[2]));
-    Planner planner(edges, records, static_cast<std::uint8_t>(std::stoul(words[6])), second_of(words[5]));
+    Planner planner(edges, records, static_cast<std::uint8_t>(number_of(words[6], 99)), second_of(words[5]));
     if (!planner.search(words[3], words[4])) return std::cout << "no way\n", 1;
     planner.print(words[4]);
 } catch (const std::exception &error) {
