@@ -455,8 +455,8 @@ def one_field(folder):
 
 
 def texts_twice(folder):
-    """Files in which each text comes twice, of basic domains that begin each minute, always or for an hour a day, and are never in
-    force together: whoever keeps their spans of a week looks for them long."""
+    """Files in which each text comes twice, of basic domains that begin each minute, always or for an hour a day, and are never
+    in force together: whoever keeps their spans of a week looks for them long."""
     for name, front in (("each minute", ""), ("each minute of an hour", "h7")):
         texts = [joined([f"[({front}s{first}){{s1}}*({front}s{(first + 1 + (number // 60 + pair) % 59) % 60}){{s1}}]"
                          for pair in range(9) for first in [(number + pair) % 60]]) for number in range(3_500)]
@@ -534,7 +534,8 @@ def tags_of_ways(folder):
 def rows_alike(folder):
     """`same --file`, which compares the rows that have the same number."""
     days = [f"M{1 + n % 12}d{1 + n // 12 % 28}" for n in range(336)]
-    streets = [f"[[(t2){{d5}}]*[(h7){{h9}}]]-[[({days[n % 336]}){{d1}}]+[({days[n * 47 % 336 - 1]}){{d1}}]]" for n in range(1_000)]
+    off = [(days[n % 336], days[n * 47 % 336 - 1]) for n in range(1_000)]
+    streets = [f"[[(t2){{d5}}]*[(h7){{h9}}]]-[[({first}){{d1}}]+[({second}){{d1}}]]" for first, second in off]
     yield desk("1,000 streets, at school hours but for two days", ["same", "--file", folder.elements("streets", streets)])
     seconds = [f"[(h{n % 24}m{n // 24 % 60}s{n // 1440 % 60}){{h2}}]" for n in range(MOST_ROWS)]
     file = folder.file("multiples", HEADER + "".join(f"{4093 * (n + 1)},both,0,{text}\n" for n, text in enumerate(seconds)))
@@ -568,7 +569,8 @@ def hours_rows(folder):
         text = folder.file(f"long_holidays_{rows}", "element,direction,vehicles,hours\n"
                            + "".join(f"{n},both,0,Mo-Fr 08:00-18:00{off}\n" for n in range(rows)))
         words = ["records", "--holidays", table, "--years", "1990-2087", text]
-        yield desk(f"{rows:,} rows, 4,000 rows of holidays of 98 years", words, rows * off.count("PH") * 35_793, "days of the years")
+        counted = rows * off.count("PH") * 35_793
+        yield desk(f"{rows:,} rows, 4,000 rows of holidays of 98 years", words, counted, "days of the years")
 
 
 def hours_texts(folder):

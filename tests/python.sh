@@ -117,7 +117,8 @@ end
 
 start failures tests/test_failures.py
 failures=$!
-start country tests/test_country.py tests/test_cluster.py tests/test_diff.py tests/test_large.py tests/test_documents.py tests/test_osm.py
+start country tests/test_country.py tests/test_cluster.py tests/test_diff.py tests/test_large.py tests/test_documents.py \
+    tests/test_osm.py
 country=$!
 start exchange tests/test_datex.py tests/test_ical.py tests/test_exchange_rows.py tests/test_exchange_faults.py \
     tests/test_exchange_commands.py
