@@ -18,7 +18,7 @@ GOAL = 2.0
 GOAL_COUNT = 20_000_000
 LIMIT = 60
 RUNS = 3  # of an input that is slow
-ANSWERS = (0, 1, 2)  # done, refused, usage
+ANSWERS = (0, 1, 2, 4)  # done, refused, usage, something was found
 
 
 def goal(case):
