@@ -27,8 +27,8 @@ use std::alloc::{AllocError, Global};
 // No memory holds an entry of so many bytes: the bound keeps the count of all bytes within its type.
 const MOST_ENTRY_BYTES: usize = 1_009_829_376_000;
 
-/// What is shown of a file: what is asked about, the elements of that in ascending order, the lines that are told of its rows,
-/// which are none if the rows are not told, and when some of its elements change next.
+/// A question and the file that answers it: the question, its elements in ascending order, the line of each row (none if rows are
+/// not shown), the records, and the next changes of some elements.
 #[derive(Clone, Copy)]
 pub(crate) struct View<'a> {
     pub(crate) asked: Asked<'a>,
