@@ -232,16 +232,18 @@ cat > "$room/text" << 'END'
 END
 prints 'example.c' "$room/week" "$room/example" "$top/examples/town.csv" 103 11
 prints 'example.cpp' "$room/week" "$room/example_cpp" "$top/examples/town.csv" 103 11
-for example in example example_cpp; do
+# refused STATUS EXAMPLE: it refuses words that are no numbers, and numbers that are too large.
+refused() {
+    local words status
     for words in '103 267' '103 11x' '103 -245' '1x 11' '99999999999 11'; do
         read -ra words <<< "$words"
-        if "$room/$example" "$top/examples/town.csv" "${words[@]}" > "$room/said" 2>&1; then
-            fail "$example: ${words[*]} was read" "$room/said"
-        else
-            pass
-        fi
+        status=0
+        "$room/$2" "$top/examples/town.csv" "${words[@]}" > "$room/said" 2>&1 || status=$?
+        if [ $status = "$1" ]; then pass; else fail "$2: ${words[*]}: status $status" "$room/said"; fi
     done
-done
+}
+refused 2 example
+refused 3 example_cpp
 prints 'examples/closed.rs' "$room/day" cargo run "${crate[@]}" --example closed -- "$top/examples/town.csv" 103 11 2024 3 15
 prints 'examples/domain.rs' "$room/text" cargo run "${crate[@]}" --example domain -- '[(h25){h1}]'
 # block N: what the document shows in its N-th fenced block.

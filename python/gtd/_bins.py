@@ -8,6 +8,7 @@ from typing import Any, Iterator, NamedTuple, Optional, Sequence, Tuple, Union
 import numpy
 import pandas
 from numpy.typing import NDArray
+from pandas.tseries.frequencies import to_offset
 
 from gtd._moments import DAY, Day, Seconds, day
 from gtd._questions import Column, element_of
@@ -80,9 +81,8 @@ def open_seconds(
     elements : sequence of int, array or column, optional
         The elements that are asked about, in this order. Without it, those that the records name, in ascending order.
     fill : number, optional
-        What an element has in each bin that no record names. Such an element is open, so it is the length of the bin if
-        ``fill`` is not given; ``-1`` or ``numpy.nan`` tell it apart from one that is named and open, as 0 tells one that is
-        always closed.
+        The value in each bin of an element that no record names. Such an element is open, so without ``fill`` it is the length of
+        the bin. With ``-1`` or ``numpy.nan`` such elements differ from those that records name and leave open.
 
     Returns
     -------
@@ -96,7 +96,7 @@ def open_seconds(
     Fault, OSError
         As for :func:`gtd.schedule`; ``'Element'`` for a number of ``elements`` that is none.
     ValueError
-        Bins are no whole seconds, or more than 1,000,000.
+        Bins are no whole seconds, are not longer than nothing, or are more than 1,000,000.
     pandas.errors.OutOfBoundsDatetime
         A bin begins after 2262-04-11, the last day of the moments of ``pandas.date_range``.
 
@@ -180,16 +180,26 @@ def _closed(part: _Part, ends: Tuple[int, int], vehicle: int) -> pandas.DataFram
 
 def _edges_of(days: Tuple[int, int], freq: Any) -> Seconds:
     """The seconds at which bins begin, and the one at which the last of them ends."""
+    offset = to_offset(freq)
+    if offset is None or offset.n < 1:
+        raise ValueError(f"a bin is longer than nothing: {freq!r}")
     first, last = (numpy.datetime64(number, "D") for number in days)
+    if isinstance(offset, pandas.offsets.Tick):  # counted before they are made
+        lasts, rest = divmod(offset.nanos, 1_000_000_000)
+        if rest:
+            raise ValueError("a bin is of whole seconds")
+        _check_count(-(-(days[1] - days[0]) * DAY // lasts))
     unit = {"unit": "s"} if HAS_SECONDS else {}
-    begins = pandas.date_range(pandas.Timestamp(first), pandas.Timestamp(last), freq=freq, **unit)
-    if len(begins) > _MOST_BINS:
-        raise ValueError(f"there are {len(begins):,} bins; {_MOST_BINS:,} are the most")
-    if ((begins.microsecond != 0) | (begins.nanosecond != 0)).any():
-        raise ValueError("a bin is of whole seconds")
+    begins = pandas.date_range(pandas.Timestamp(first), pandas.Timestamp(last), freq=offset, **unit)
+    _check_count(len(begins))
     inside = begins.to_numpy().astype("datetime64[s]").astype("int64")
     edges: Seconds = numpy.unique(numpy.concatenate(([days[0] * DAY], inside, [days[1] * DAY])))
     return edges
+
+
+def _check_count(bins: int) -> None:
+    if bins > _MOST_BINS:
+        raise ValueError(f"there are {bins:,} bins; {_MOST_BINS:,} are the most")
 
 
 def _opened(part: _Part, edges: Seconds) -> Seconds:
@@ -209,7 +219,9 @@ def _opened(part: _Part, edges: Seconds) -> Seconds:
 
 def _looked_up(named: Seconds, opened: NDArray[Any], wanted: Seconds, fill: NDArray[Any]) -> NDArray[Any]:
     """The lines of each wanted element; ``fill`` of one that is not named."""
-    dtype = numpy.result_type(opened.dtype, *(numpy.min_scalar_type(value) for value in (fill.min(), fill.max())))
+    dtype = opened.dtype if fill.dtype == "int64" else numpy.dtype("float64")
+    if dtype == "int32" and not (abs(fill) <= numpy.iinfo("int32").max).all():
+        dtype = numpy.dtype("int64")
     found = numpy.empty((len(wanted), 2, len(fill)), dtype=dtype)
     at = numpy.searchsorted(named, wanted)
     is_named = at < len(named)

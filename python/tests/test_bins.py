@@ -93,8 +93,11 @@ def test_elements_that_no_row_names():
     assert apart.to_numpy().reshape(4, 2).tolist() == [[-1, -1], [81_000, 0], [86_400, 86_400], [-1, -1]]
     missing = gtd.open_seconds(FILE, "2024-04-01", "2024-04-02", VEHICLE, freq="D", elements=asked, fill=numpy.nan)
     assert missing.isna().to_numpy().reshape(4, 2).tolist() == [[True, True], [False, False], [False, False], [True, True]]
-    whole = gtd.open_seconds(FILE, "2024-04-01", "2024-04-02", VEHICLE, freq="D", elements=[18], fill=1 << 40)
-    assert whole.to_numpy().tolist() == [[1 << 40], [1 << 40]]
+    wide = gtd.open_seconds(FILE, "2024-04-01", "2024-04-02", VEHICLE, freq="D", elements=[18], fill=1 << 40)
+    assert (wide.dtypes == "int64").all() and wide.to_numpy().tolist() == [[1 << 40], [1 << 40]]
+    day = gtd.open_seconds(FILE, "2024-04-01", "2024-04-02", VEHICLE, freq="D", elements=asked)
+    assert (day.dtypes == "int32").all() and day.loc[18].to_numpy().tolist() == [[86_400], [86_400]] * 2
+    assert (missing.dtypes == "float64").all()
     assert gtd.open_seconds(FILE, "2024-04-01", "2024-04-02", VEHICLE, elements=[]).shape == (0, 24)
 
 
@@ -119,7 +122,10 @@ def test_long_bins_are_wide_numbers():
     assert seconds.to_numpy()[1].tolist() == [0] * seconds.shape[1]
 
 
-@pytest.mark.parametrize("freq, said", [("5ms", "1,000,000|whole seconds"), ("1500ms", "whole seconds"), ("never", "never")])
+@pytest.mark.parametrize("freq, said", [
+    ("5ms", "whole seconds"), ("1500ms", "whole seconds"), ("never", "never"), ("-1h", "longer than nothing"),
+    ("0h", "longer than nothing"), (None, "longer than nothing"), ("-1MS", "longer than nothing"),
+])
 def test_bins_that_are_refused(freq, said):
     with pytest.raises(ValueError, match=said):
         gtd.open_seconds(FILE, "2024-04-01", "2024-04-02", VEHICLE, freq=freq)
@@ -127,7 +133,7 @@ def test_bins_that_are_refused(freq, said):
 
 def test_bins_that_are_too_many():
     with pytest.raises(ValueError, match="1,000,000 are the most"):
-        gtd.open_seconds(FILE, "2024-01-01", "2025-01-01", VEHICLE, freq="s")
+        gtd.open_seconds(FILE, "1901-01-01", "2262-01-01", VEHICLE, freq="s")
 
 
 def test_faults_come_in_the_order_of_the_words():
