@@ -89,17 +89,12 @@ fn none_until(states: &mut ExprStates, at: Sec, days: Horizon, steps: &mut i64) 
     if reached.0 >= repeated.0 {
         return until;
     }
-    let end = reached.earlier(until);
-    end
+    reached.earlier(until)
 }
 
 // The steps that take as long as to sweep some seconds with so many starts each week.
 fn steps_for(seconds: i64, starts: i64) -> i64 {
     seconds.saturating_mul(starts) / SECONDS_OF_A_STEP
-}
-
-fn lesser(first: i64, second: i64) -> i64 {
-    if first < second { first } else { second }
 }
 
 // The steps that are taken at first: those of one period with so many starts each week, and some more.
@@ -130,7 +125,7 @@ fn none_by_pieces(states: &mut ExprStates, from: Sec, days: Horizon, starts: i64
             return at;
         }
         let passed = reached.0.saturating_sub(at.0);
-        let more = lesser(steps_for(passed, starts), rest);
+        let more = steps_for(passed, starts).min(rest);
         rest = rest.saturating_sub(more);
         steps = steps.saturating_add(more);
         at = reached;

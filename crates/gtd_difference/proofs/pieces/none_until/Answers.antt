@@ -51,5 +51,5 @@ returns-then-reached-repeated-clause-none c =
 pub returns-clause-none : goal.returns-clause-none
 returns-clause-none c =
     none-in (InFixed c.fix-until.new.states) (InTree (states_tree c.args.states.now)) c.args.at.0 c.fix-until.result.0
-    c.none_fixed_until-reached.result.0 c.earlier-end.result.0 c.fix-until.ensures.fixed c.none_fixed_until-reached.ensures.none
-    c.earlier-end.ensures.not_later.1 c.earlier-end.ensures.not_later.0
+    c.none_fixed_until-reached.result.0 c.earlier.result.0 c.fix-until.ensures.fixed c.none_fixed_until-reached.ensures.none
+    c.earlier.ensures.not_later.1 c.earlier.ensures.not_later.0
