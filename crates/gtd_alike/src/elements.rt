@@ -5,7 +5,7 @@ ghost use Rattle.gtd_alike.specs.Alike.{AreFirstAlike};
 ghost use Rattle.gtd_alike.specs.Ready.{AreAlikeAt};
 
 use crate::firsts::{Likeness, firsts_of};
-use gtd_records::{Records, are_closed_alike, hashes_of_closing};
+use gtd_records::{Records, are_closed_alike};
 use gtd_rows::DirectedElement;
 use std::alloc::{AllocError, Global};
 
@@ -32,7 +32,10 @@ impl Likeness for Elements<'_> {
 
     fn hash(&self, at: usize) -> u32 {
         match self.asked.get(at) {
-            Some(one) => hashes_of_closing(self.found, one.element, self.vehicle).of(one.direction),
+            Some(one) => {
+                let closed = self.found.closed_directions(one.element, self.vehicle);
+                closed.of(one.direction).hash
+            }
             None => 0,
         }
     }

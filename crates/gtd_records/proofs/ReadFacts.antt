@@ -12,12 +12,12 @@ use Rattle.gtd_records.specs.declared.fault.RecordFault.TheVariants as fault
 not_memory : (why : RecordFault) → IsOfFile why → why ≢ fault.NoMemory
 not_memory why of = λ e. subst IsOfFile e of
 
-pub of_table : (bytes : List ℕ) (told : Option (List ℕ)) (r : Result (List Restriction) RecordFault) → length bytes ≤ 16777216
-    → IfSome told (λ all. bytes ≡ all)
-    → MatchResult r (λ found. IsTable (records default_config (strip_bom bytes)) (Ok found))
+pub of_table : {T : Type 0} (f : T → List Restriction) (bytes : List ℕ) (told : Option (List ℕ)) (r : Result T RecordFault)
+    → length bytes ≤ 16777216 → IfSome told (λ all. bytes ≡ all)
+    → MatchResult r (λ found. IsTable (records default_config (strip_bom bytes)) (Ok (f found)))
     (λ why. why ≢ fault.NoMemory → IsTable (records default_config (strip_bom bytes)) (Err why))
-    → IfSome told (λ all. MatchResult r (λ found. IsFile all (Ok found)) (λ why. IsOfFile why → IsFile all (Err why)))
-of_table bytes None r few is t = tt
-of_table bytes (Some all) (Ok found) few is t = subst (λ b. IsFile b (Ok found)) is (inl (few, table_of _ _ t))
-of_table bytes (Some all) (Err why) few is t = λ of.
+    → IfSome told (λ all. MatchResult r (λ found. IsFile all (Ok (f found))) (λ why. IsOfFile why → IsFile all (Err why)))
+of_table f bytes None r few is t = tt
+of_table f bytes (Some all) (Ok found) few is t = subst (λ b. IsFile b (Ok (f found))) is (inl (few, table_of _ _ t))
+of_table f bytes (Some all) (Err why) few is t = λ of.
     subst (λ b. IsFile b (Err why)) is (inl (few, table_of _ _ (t (not_memory why of))))

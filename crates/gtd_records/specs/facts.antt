@@ -1,3 +1,4 @@
+pub mod ClosedFacts
 pub mod OpenDecisions
 pub mod FileFacts
 pub mod FileForms

@@ -93,39 +93,3 @@ pub fn are_closed_alike(
     };
     is_within(found, first, second, vehicle) && is_within(found, second, first, vehicle)
 }
-
-/// Hashes of the texts of the domains of the rows that close an element, in whatever order, for each direction. If as many rows
-/// with the same texts close another element, it has the same, and few others have.
-#[derive(Clone, Copy, Debug)]
-pub struct ClosingHashes {
-    /// That of the positive direction.
-    pub positive: u32,
-    /// That of the negative direction.
-    pub negative: u32,
-}
-
-impl ClosingHashes {
-    /// That of a direction.
-    pub fn of(&self, direction: Direction) -> u32 {
-        match direction {
-            Direction::Positive => self.positive,
-            Direction::Negative => self.negative,
-        }
-    }
-}
-
-/// The hashes of what closes an element for a vehicle type. Takes no memory.
-pub fn hashes_of_closing(found: &Records, element: u64, vehicle: u8) -> ClosingHashes {
-    let (mut positive, mut negative) = (0u32, 0u32);
-    for place in found.places_of_element(element) {
-        let row = &found.rows()[place.row as usize];
-        let hash = (row.text_hash ^ 1).wrapping_mul(16_777_619);
-        if row.concerns(Direction::Positive, vehicle) {
-            positive = positive.wrapping_add(hash);
-        }
-        if row.concerns(Direction::Negative, vehicle) {
-            negative = negative.wrapping_add(hash);
-        }
-    }
-    ClosingHashes { positive, negative }
-}

@@ -13,9 +13,10 @@ ghost use Rattle.gtd_records.specs.ClosingCursors.{AreAtStart, HasSecond, IsClos
 ghost use Rattle.gtd_records.specs.ClosingRows.{AreClosingRows};
 ghost use Rattle.gtd_records.specs.Index.{AreClosing, AreElementPlaces, ArePlaces, ArePlacesWithin, IsRepeated, IsSoleRow};
 ghost use Rattle.gtd_rows.specs.Columns.{IsSortedSet};
+ghost use Rattle.gtd_rows.specs.declared.direction.Direction.TheVariants.{Positive, Negative};
 ghost use Rattle.gtd_records.specs.RowPlaces.{place_of};
 
-use crate::closed_when::ClosedWhen;
+use crate::closed_when::{ClosedDirection, ClosedDirections, ClosedWhen};
 use crate::closing_cursors::ClosingCursors;
 use crate::record::Record;
 use crate::row_place::{is_closed_in, place_of};
@@ -24,7 +25,7 @@ use gtd_eval::{Period, Stay};
 use gtd_places::{
     OrderedPlaces, RowPlace, RowVehicles, Sections, by_element, elements_of, places_below_near,
 };
-use gtd_rows::Direction;
+use gtd_rows::{DirectedElement, Direction};
 use std::alloc::{AllocError, Global};
 use std::marker::Model;
 
@@ -313,22 +314,59 @@ impl Records {
         Some(longest)
     }
 
-    /// When the records close the element in the direction for the vehicle type, as far as this is seen without their domains:
-    /// never, always, or at the seconds of domains. The search ends at a record without a domain that closes it. Takes no memory.
-    pub(crate) fn closed_when(&self, element: u64, direction: Direction, vehicle: u8) -> ClosedWhen
-        ensures when { IsClosedWhen element direction vehicle self.now result }
+    // When the records at the places of an element close a direction of it. The search ends at a record without a domain.
+    fn closed_direction(
+        &self,
+        places: &[RowPlace],
+        at: DirectedElement,
+        vehicle: u8,
+    ) -> ClosedDirection
+        requires places { AreElementPlaces self.now at.element places.now }
+        ensures when { IsClosedWhen at.element at.direction vehicle self.now result.when }
     {
         let mut when = ClosedWhen::Never;
-        for place in self.places_of_element(element) {
-            let row = &self.rows[place.row as usize];
-            if row.concerns(direction, vehicle) {
+        let mut hash = 0u32;
+        for place in places {
+            if self.concerns_at(place, at.direction, vehicle) {
+                let row = &self.rows[place.row as usize];
                 if row.domain().is_none() {
-                    return ClosedWhen::Always;
+                    let when = ClosedWhen::Always;
+                    return ClosedDirection { when, hash: 1 };
                 }
                 when = ClosedWhen::ByDomains;
+                hash = hash.wrapping_add(row.spread_hash());
             }
         }
-        when
+        ClosedDirection { when, hash }
+    }
+
+    /// When the records close the element in each direction for the vehicle type, as far as this is seen without their domains:
+    /// never, always, or at the seconds of domains. The search ends at a record without a domain that closes it. Takes no memory.
+    pub fn closed_directions(&self, element: u64, vehicle: u8) -> ClosedDirections
+        ensures positive { IsClosedWhen element Positive vehicle self.now result.positive.when }
+        ensures negative { IsClosedWhen element Negative vehicle self.now result.negative.when }
+    {
+        let places = self.places_of_element(element);
+        let positive = DirectedElement {
+            element,
+            direction: Direction::Positive,
+        };
+        let negative = DirectedElement {
+            element,
+            direction: Direction::Negative,
+        };
+        ClosedDirections {
+            positive: self.closed_direction(places, positive, vehicle),
+            negative: self.closed_direction(places, negative, vehicle),
+        }
+    }
+
+    // The same for one direction.
+    pub(crate) fn closed_when(&self, at: DirectedElement, vehicle: u8) -> ClosedWhen
+        ensures when { IsClosedWhen at.element at.direction vehicle self.now result }
+    {
+        let places = self.places_of_element(at.element);
+        self.closed_direction(places, at, vehicle).when
     }
 
     // The cursors of the records that close the element in the direction for the vehicle type, of equal ones perhaps one.

@@ -6,15 +6,16 @@
 //! [`open_seconds`] says the same span by span. [`next_change`] says when that changes.
 #![tactic(auto)]
 
-pub use alike::{ClosingHashes, are_closed_alike, hashes_of_closing};
+pub use alike::are_closed_alike;
 pub use change::next_change;
+pub use closed_when::{ClosedDirection, ClosedDirections, ClosedWhen};
 pub use fault::RecordFault;
 pub use faults::{faults_of, read_faults};
 pub use index::Records;
 pub use reader::read_records;
 pub use record::Record;
 pub use row::RowReader;
-pub use schedule::{open_seconds, schedule_of};
+pub use schedule::{open_by_domains, open_seconds, schedule_of};
 
 mod alike;
 mod always;

@@ -1,32 +1,31 @@
 //! The records that an input brings.
 
-ghost use Rattle.std.specs.Prelude.{◌≡◌, ◌<◌, ◌≤◌, ◌≢◌, length, Ok, Err, IfOk, MatchResult, IfSome, IsErrOf, IsTrue};
+ghost use Rattle.std.specs.Prelude.{◌≡◌, ◌<◌, ◌≤◌, length, Ok, Err, IfOk, MatchResult, IfSome, IsErrOf, IsTrue};
 ghost use Rattle.gtd_core.specs.Limits.{most_rows};
-ghost use Rattle.csv.specs.Reading.{default_config, strip_bom, records};
-ghost use Rattle.gtd_records.specs.ComputedFile.{IsTable};
 ghost use Rattle.gtd_records.specs.File.{IsFile, IsOfFile};
 ghost use Rattle.gtd_records.specs.Reading.{failures_after_records};
 
 use crate::fault::RecordFault;
 use crate::file::read_table;
 use crate::index::Records;
+use crate::record::Record;
 use gtd_core::limits::MOST_FILE_BYTES;
 use gtd_devices::{Input, read_whole};
 use std::alloc::Global;
 
-// The records of a file's bytes, found by their element, or the file's first fault.
-fn read_index(alloc: Global, bytes: &[u8]) -> Result<Records, RecordFault>
-    ensures { MatchResult result
-        (λ found. IsTable (records default_config (strip_bom bytes.now)) (Ok found))
-        (λ why. why ≢ RecordFault.NoMemory → IsTable (records default_config (strip_bom bytes.now)) (Err why)) }
+// The records of the rows of the file that an input brings, or its first fault. The bytes of the file are dropped.
+fn read_rows<I: Input>(alloc: Global, input: &mut I) -> Result<Vec<Record>, RecordFault>
+    requires countable { I.failure_count input.old < u64.MAX }
+    ensures file { IfSome (I.to_come input.old) (λ bytes. MatchResult result
+        (λ found. IsFile bytes (Ok found.items))
+        (λ why. IsOfFile why → IsFile bytes (Err why))) }
+    ensures few { IfOk result (λ found. length found.items ≤ most_rows) }
+    ensures endless { IsErrOf result RecordFault.Endless → IsTrue (I.may_fall_silent input.old) }
+    ensures failures { I.failure_count input.new
+        ≡ failures_after_records result (I.failure_count input.old) }
 {
-    match read_table(alloc, bytes) {
-        Ok(rows) => match Records::new(alloc, rows) {
-            Ok(found) => Ok(found),
-            Err(_) => Err(RecordFault::NoMemory),
-        },
-        Err(fault) => Err(fault),
-    }
+    let bytes = read_whole(alloc, input, MOST_FILE_BYTES)?;
+    read_table(alloc, bytes.as_slice())
 }
 
 /// The records of the file that an input brings, or its first fault.
@@ -55,6 +54,9 @@ pub fn read_records<I: Input>(alloc: Global, input: &mut I) -> Result<Records, R
     ensures failures { I.failure_count input.new
         ≡ failures_after_records result (I.failure_count input.old) }
 {
-    let bytes = read_whole(alloc, input, MOST_FILE_BYTES)?;
-    read_index(alloc, bytes.as_slice())
+    let rows = read_rows(alloc, input)?;
+    match Records::new(alloc, rows) {
+        Ok(found) => Ok(found),
+        Err(_) => Err(RecordFault::NoMemory),
+    }
 }

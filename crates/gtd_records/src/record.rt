@@ -98,6 +98,11 @@ impl Record {
             && self.concerns(direction, vehicle)
     }
 
+    // The hash of the domain's text, which has the same part in a sum of such hashes whatever their order.
+    pub(crate) fn spread_hash(&self) -> u32 {
+        (self.text_hash ^ 1).wrapping_mul(16_777_619)
+    }
+
     // Whether the record closes its element for a vehicle type in one direction alone, whatever the second.
     pub(crate) fn closes_one_way(&self, vehicle: u8) -> bool
         ensures { IsTrue result ↔ ClosesOneWay self.now.element vehicle self.now }

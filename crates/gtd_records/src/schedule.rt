@@ -14,8 +14,10 @@ use gtd_rows::{DirectedElement, Direction};
 use gtd_spans::SpanList;
 use std::alloc::{AllocError, Global};
 
-// The open seconds of an element that records with domains close: none where those that repeat close it at every second.
-fn open_by_domains(
+/// The same as [`open_seconds`], without a look whether a record without a domain closes the element. So it is for an element in
+/// a direction of which it is known that records with domains close it, by [`Records::closed_directions`].
+/// `AllocError` is answered only if memory was refused.
+pub fn open_by_domains(
     alloc: Global,
     records: &Records,
     at: DirectedElement,
@@ -52,13 +54,11 @@ pub fn open_seconds(
         (λ c. IsNormalOver (IsOpen records.now element direction vehicle) horizon (cursor_list c)) }
     ensures start { IfOk result IsAtStart }
 {
-    match records.closed_when(element, direction, vehicle) {
+    let at = DirectedElement { element, direction };
+    match records.closed_when(at, vehicle) {
         ClosedWhen::Never => Ok(KeptCursor::whole(horizon)),
         ClosedWhen::Always => KeptCursor::any(alloc, Vec::new(alloc), horizon),
-        ClosedWhen::ByDomains => {
-            let at = DirectedElement { element, direction };
-            open_by_domains(alloc, records, at, vehicle, horizon)
-        }
+        ClosedWhen::ByDomains => open_by_domains(alloc, records, at, vehicle, horizon),
     }
 }
 

@@ -6,7 +6,7 @@ ghost use Rattle.gtd_schedule.specs.OpenCursors.{AreRight, IsOf, IsStarted, IsSt
 use crate::elements::ScheduleText;
 use crate::hash_places::HashPlaces;
 use gtd_eval::KeptCursor;
-use gtd_records::{are_closed_alike, open_seconds};
+use gtd_records::{are_closed_alike, open_by_domains};
 use gtd_rows::DirectedElement;
 use std::alloc::{AllocError, Global};
 
@@ -94,9 +94,8 @@ impl OpenCursors {
         ensures of { OnOk result (IsOf text.entry.found.now text.entry.lines.now.schedule at (wholes self.new) self.new.used) }
         ensures start { OnOk result (IsStarted self.new.list.items self.new.used) }
     {
-        let (element, direction) = (at.element, at.direction);
         let (vehicle, horizon) = (text.lines.schedule.vehicle, text.lines.schedule.horizon);
-        let cursor = open_seconds(alloc, text.found, element, direction, vehicle, horizon)?;
+        let cursor = open_by_domains(alloc, text.found, at, vehicle, horizon)?;
         let nodes = cursor.nodes();
         let is_kept = self.places.is_to_be_kept(hash, nodes);
         let number = if is_kept {

@@ -1,31 +1,35 @@
 //! The lines of all elements.
 
-ghost use Rattle.std.specs.Prelude.{◌≡◌, ◌+◌, ◌*◌, ◌<◌, ◌≤◌, ◌^◌, length, OnOk};
+ghost use Rattle.std.specs.Prelude.{◌≡◌, ◌↔◌, ◌+◌, ◌*◌, ◌<◌, ◌≤◌, ◌^◌, ℤ, length, IsTrue, OnOk};
 ghost use Rattle.gtd_core.specs.Limits.{most_rows};
+ghost use Rattle.gtd_records.specs.Closing.{IsClosed};
+ghost use Rattle.gtd_records.specs.declared.closed_when.ClosedWhen.TheVariants.{ByDomains};
 ghost use Rattle.gtd_report.specs.Putting.{AreElementLines, AreLinesOf, PutsText, failures_after_stop};
 ghost use Rattle.gtd_report.specs.Putting.{most_direction_bytes, most_direction_lines};
+ghost use Rattle.gtd_schedule.specs.Asked.{IsClosedAsAsked};
 ghost use Rattle.gtd_schedule.specs.OpenCursors.{AreRight, IsOf, IsStarted, wholes};
 ghost use Rattle.gtd_schedule.specs.Schedule.{AreLines};
 
 use crate::cursors::OpenCursors;
 use crate::elements::{ScheduleText, put_direction_spans};
 use gtd_devices::Output;
-use gtd_records::{are_closed_alike, hashes_of_closing, open_seconds};
+use gtd_eval::KeptCursor;
+use gtd_records::{ClosedDirection, ClosedWhen, are_closed_alike};
 use gtd_report::{Printer, Stop};
 use gtd_rows::{DirectedElement, Direction};
 
-/// An element in a direction, and the hash of what closes it.
+/// An element in a direction, and when it is closed.
 #[derive(Clone, Copy)]
-struct HashedDirection {
+struct AskedDirection {
     at: DirectedElement,
-    hash: u32,
+    closed: ClosedDirection,
 }
 
 /// An element in both directions.
 #[derive(Clone, Copy)]
-struct HashedDirections {
-    positive: HashedDirection,
-    negative: HashedDirection,
+struct AskedDirections {
+    positive: AskedDirection,
+    negative: AskedDirection,
 }
 
 // Puts the lines of an element in a direction from the cursor in use.
@@ -61,38 +65,58 @@ fn put_direction<O: Output>(
     printer: &mut Printer,
     text: ScheduleText<'_>,
     cursors: &mut OpenCursors,
-    asked: HashedDirection,
+    asked: AskedDirection,
 ) -> Result<(), Stop>
     requires countable { O.failure_count output.old < u64.MAX }
     requires written { printer.old.progress.written + most_direction_bytes < 2 ^ 64 }
     requires lines { printer.old.progress.lines + most_direction_lines < 2 ^ 64 }
     requires right { AreRight text.found.now text.lines.now.schedule (wholes cursors.old) }
+    requires when { IsClosedAsAsked text.found.now text.lines.now.schedule asked }
     ensures puts { PutsText (AreLines text.entry.found.now text.entry.lines.now.schedule.vehicle
         text.entry.lines.now.schedule.horizon asked.at.element asked.at.direction)
         result (O.taken output.old) (O.taken output.new) printer.old.progress printer.new.progress }
     ensures near { OnOk result ((printer.new.progress.written ≤ printer.old.progress.written + most_direction_bytes)
         × (printer.new.progress.lines ≤ printer.old.progress.lines + most_direction_lines)) }
     ensures right { OnOk result (AreRight text.entry.found.now text.entry.lines.now.schedule (wholes cursors.new)) }
-    ensures of { (asked.hash ≡ 0 → ⊥) → OnOk result
+    ensures of { asked.closed.when ≡ ByDomains → OnOk result
         (IsOf text.entry.found.now text.entry.lines.now.schedule asked.at (wholes cursors.new) cursors.new.used) }
     ensures failures { O.failure_count output.new
         ≡ failures_after_stop result (O.failure_count output.old) }
 {
-    let (alloc, at) = (printer.alloc, asked.at);
-    if asked.hash == 0 {
-        let (vehicle, horizon) = (text.lines.schedule.vehicle, text.lines.schedule.horizon);
-        let mut spans = open_seconds(
-            alloc,
-            text.found,
-            at.element,
-            at.direction,
-            vehicle,
-            horizon,
-        )?;
-        return put_direction_spans(output, printer, text, at, &mut spans);
+    let at = asked.at;
+    match asked.closed.when {
+        ClosedWhen::Never => {
+            let mut spans = KeptCursor::whole(text.lines.schedule.horizon);
+            put_direction_spans(output, printer, text, at, &mut spans)
+        }
+        ClosedWhen::Always => Ok(()),
+        ClosedWhen::ByDomains => {
+            cursors.use_for(printer.alloc, text, at, asked.closed.hash)?;
+            put_from_used(output, printer, text, cursors, at)
+        }
     }
-    cursors.use_for(alloc, text, at, asked.hash)?;
-    put_from_used(output, printer, text, cursors, at)
+}
+
+// Whether records with domains close an element in its positive direction, and its negative one at the same seconds.
+fn are_alike(text: ScheduleText<'_>, asked: AskedDirections) -> bool
+    ensures by_domains { IsTrue result → asked.positive.closed.when ≡ ByDomains }
+    ensures alike { IsTrue result → (t : ℤ)
+        → IsClosed text.found.now asked.positive.at.element asked.positive.at.direction text.lines.now.schedule.vehicle t
+        ↔ IsClosed text.found.now asked.negative.at.element asked.negative.at.direction text.lines.now.schedule.vehicle t }
+{
+    let (positive, negative) = (asked.positive, asked.negative);
+    if negative.closed.hash != positive.closed.hash {
+        return false;
+    }
+    match positive.closed.when {
+        ClosedWhen::Never | ClosedWhen::Always => false,
+        ClosedWhen::ByDomains => are_closed_alike(
+            text.found,
+            positive.at,
+            negative.at,
+            text.lines.schedule.vehicle,
+        ),
+    }
 }
 
 // Puts the lines of an element in its negative direction, after those in its positive one. If it is closed alike in both, the
@@ -102,14 +126,15 @@ fn put_negative<O: Output>(
     printer: &mut Printer,
     text: ScheduleText<'_>,
     cursors: &mut OpenCursors,
-    asked: HashedDirections,
+    asked: AskedDirections,
 ) -> Result<(), Stop>
     requires countable { O.failure_count output.old < u64.MAX }
     requires written { printer.old.progress.written + most_direction_bytes < 2 ^ 64 }
     requires lines { printer.old.progress.lines + most_direction_lines < 2 ^ 64 }
     requires right { AreRight text.found.now text.lines.now.schedule (wholes cursors.old) }
-    requires of { (asked.positive.hash ≡ 0 → ⊥)
+    requires of { asked.positive.closed.when ≡ ByDomains
         → IsOf text.found.now text.lines.now.schedule asked.positive.at (wholes cursors.old) cursors.old.used }
+    requires when { IsClosedAsAsked text.found.now text.lines.now.schedule asked.negative }
     ensures puts { PutsText (AreLines text.entry.found.now text.entry.lines.now.schedule.vehicle
         text.entry.lines.now.schedule.horizon asked.negative.at.element asked.negative.at.direction)
         result (O.taken output.old) (O.taken output.new) printer.old.progress printer.new.progress }
@@ -119,20 +144,11 @@ fn put_negative<O: Output>(
     ensures failures { O.failure_count output.new
         ≡ failures_after_stop result (O.failure_count output.old) }
 {
-    let (positive, negative) = (asked.positive, asked.negative);
-    if negative.hash == positive.hash
-        && negative.hash != 0
-        && are_closed_alike(
-            text.found,
-            positive.at,
-            negative.at,
-            text.lines.schedule.vehicle,
-        )
-    {
+    if are_alike(text, asked) {
         cursors.begin_again();
-        return put_from_used(output, printer, text, cursors, negative.at);
+        return put_from_used(output, printer, text, cursors, asked.negative.at);
     }
-    put_direction(output, printer, text, cursors, negative)
+    put_direction(output, printer, text, cursors, asked.negative)
 }
 
 // Puts the lines of an element, positive before negative.
@@ -156,22 +172,24 @@ fn put_element<O: Output>(
     ensures failures { O.failure_count output.new
         ≡ failures_after_stop result (O.failure_count output.old) }
 {
-    let hashes = hashes_of_closing(text.found, element, text.lines.schedule.vehicle);
-    let positive = HashedDirection {
+    let closed = text
+        .found
+        .closed_directions(element, text.lines.schedule.vehicle);
+    let positive = AskedDirection {
         at: DirectedElement {
             element,
             direction: Direction::Positive,
         },
-        hash: hashes.positive,
+        closed: closed.positive,
     };
-    let negative = HashedDirection {
+    let negative = AskedDirection {
         at: DirectedElement {
             element,
             direction: Direction::Negative,
         },
-        hash: hashes.negative,
+        closed: closed.negative,
     };
-    let asked = HashedDirections { positive, negative };
+    let asked = AskedDirections { positive, negative };
     put_direction(output, printer, text, cursors, positive)?;
     put_negative(output, printer, text, cursors, asked)
 }

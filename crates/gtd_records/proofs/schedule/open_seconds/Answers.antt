@@ -1,6 +1,7 @@
 -- All is open where no record closes the element, nothing where one without a domain does.
 use Rattle.gtd_eval.specs.Cursors.{cursor_list}
-use Rattle.gtd_records.proofs.ClosedWhenFacts.{always_closed, never_closed, none_hold}
+use Rattle.gtd_records.proofs.ClosedWhenFacts.{none_hold}
+use Rattle.gtd_records.specs.facts.ClosedFacts.{always_closed, never_closed}
 use Rattle.gtd_records.proofs.OpenFacts.{ok_both}
 use Rattle.gtd_records.proofs.schedule.open_seconds.Goals as goal
 
