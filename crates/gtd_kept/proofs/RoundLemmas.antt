@@ -7,14 +7,14 @@ use Rattle.std.proofs.lemmas.Int.{ints, by_lt_z}
 use Rattle.std.proofs.Math.IntN.{pos-*ℤ-pos, suc_ℤ-*ℤ, zero-*ℤ}
 use Rattle.std.proofs.Math.Nat.{div-add-mod}
 use Rattle.std.specs.Int.{int_rem_euclid}
-use Rattle.std.specs.Prelude.{ℤ, pos, negsuc, ◌+ℤ◌, ◌-ℤ◌, ◌*ℤ◌, ◌≤ℤ◌, ◌<ℤ◌, int_lt}
+use Rattle.std.specs.Prelude.{ℤ, pos, negsuc, ◌+ℤ◌, ◌-ℤ◌, ◌*ℤ◌, ◌≤ℤ◌, ◌<ℤ◌}
 use Rattle.gtd_core.specs.Seconds.{Interval}
 use Rattle.gtd_spans.specs.Normal.{AllBeginAfter, IsNormal}
 use Rattle.gtd_spans.specs.Skipping.{AllEndBy, LeavesOut}
 use Rattle.gtd_spans.specs.facts.OneList.{same-interval}
-use Rattle.gtd_kept.specs.Repeating.{AllDoneBy, AreKept, IsWhole, all_later, begun_after, later, moved, to_come}
+use Rattle.gtd_kept.specs.Repeating.{AllDoneBy, AreKept, IsWhole, all_later, begun_after, moved, to_come}
 use Rattle.gtd_kept.specs.declared.repeat.Stage.{Stage}
-use Rattle.gtd_kept.specs.declared.repeat.Stage.TheVariants.{Learning, Repeating, GivenUp}
+use Rattle.gtd_kept.specs.declared.repeat.Stage.TheVariants.{Repeating}
 use Rattle.gtd_kept.proofs.RepeatLemmas.{begun-all, later-after, later-some, lt-false, lt-true}
 use Rattle.gtd_kept.proofs.SkipFacts.{leaves-more}
 
@@ -103,9 +103,9 @@ moved-next by n xs ys x y first others count lt is moves =
 pub done-turned : (e : ℤ) (n : ℕ) (xs : List Interval) → AllDoneBy e xs → AllDoneBy e (drop n xs ++ take n xs)
 done-turned e n xs d = done-both e (drop n xs) (take n xs) (done-drop e n xs d) (done-take e n xs d)
 
-pub moved_turned : (by : ℤ) (n : ℕ) (xs ys : List Interval) → ys ≡ map (moved by) xs
+pub moved-turned : (by : ℤ) (n : ℕ) (xs ys : List Interval) → ys ≡ map (moved by) xs
     → drop n ys ++ take n ys ≡ map (moved by) (drop n xs ++ take n xs)
-moved_turned by n xs ys is =
+moved-turned by n xs ys is =
     rw (is, drop-map (moved by) n xs, take-map (moved by) n xs) (sym (map-append (moved by) (drop n xs) (take n xs)))
 
 moved-done : (e by : ℤ) (xs : List Interval) → AllDoneBy e xs → AllDoneBy (e +ℤ by) (map (moved by) xs)

@@ -243,8 +243,8 @@ impl Repeat {
         true
     }
 
-    // The seconds of the whole periods after the last span that was handed out that are over by a second, and by the end of the
-    // horizon, if there is one.
+    // The seconds of the whole periods from the end of the last span to another second, and to the end of the horizon, if there
+    // is such a period.
     fn whole_periods(&self, last: Sec, second: Sec) -> Option<i64>
         ensures whole { IfSome result (IsWhole self.now.period) }
         ensures not_back { IfSome result (λ by. pos 0 ≤ℤ by) }
@@ -259,8 +259,8 @@ impl Repeat {
         Some(whole_part(past, self.period))
     }
 
-    // Moves all kept spans, which end by a second, by some seconds. That second, so many seconds later, is the end of the last span
-    // that was handed out.
+    // Moves all kept spans by some seconds, and with them the second by which they end: the last span that was handed out ended
+    // there.
     fn move_kept(&mut self, last: Sec, by: i64)
         requires done { AllDoneBy last.0 self.old.kept.items }
         requires not_back { pos 0 ≤ℤ by }
@@ -280,7 +280,7 @@ impl Repeat {
         self.stage = Stage::Repeating(Sec(last.0 + by));
     }
 
-    // Leaves out all kept spans, in as many periods as are over by a second.
+    // Leaves out the spans of the whole periods that are over by a second.
     fn skip_periods(&mut self, second: Sec)
         requires repeating { IsRepeating self.old.stage }
         ensures leaves { (xs : List Interval) → IsNormal xs → HasKept self.old xs
@@ -304,8 +304,9 @@ impl Repeat {
         self.move_kept(last, by);
     }
 
-    /// Leaves out the next spans that end by a second.
-    pub fn skip_to(&mut self, second: Sec)
+    // Leaves out the next spans that end by a second: whole periods at once, and then span by span.
+    #[inline(never)]
+    fn skip_spans(&mut self, second: Sec)
         requires repeating { IsRepeating self.old.stage }
         ensures leaves { (xs : List Interval) → IsNormal xs → HasKept self.old xs
             → LeavesOut second.0 (to_come self.old.stage xs) (to_come self.new.stage xs) }
@@ -321,6 +322,27 @@ impl Repeat {
             if !self.skips_one(second) {
                 return;
             }
+        }
+    }
+
+    /// Leaves out the next spans that end by a second. Mostly there is none, since the last span did not end before that.
+    #[inline(always)]
+    pub fn skip_to(&mut self, second: Sec)
+        requires repeating { IsRepeating self.old.stage }
+        ensures leaves { (xs : List Interval) → IsNormal xs → HasKept self.old xs
+            → LeavesOut second.0 (to_come self.old.stage xs) (to_come self.new.stage xs) }
+        ensures kept { (xs : List Interval) → IsNormal xs → HasKept self.old xs → HasKept self.new xs }
+        ensures again { (xs : List Interval) → CanBeginAgain self.old xs → CanBeginAgain self.new xs }
+        ensures ended { IsLapEnded self.old → IsLapEnded self.new }
+        ensures told { self.new.told.items ≡ self.old.told.items }
+        ensures repeating { IsRepeating self.new.stage }
+        ensures room { self.new.room ≡ self.old.room }
+    {
+        let Stage::Repeating(last) = self.stage else {
+            return;
+        };
+        if second > last {
+            self.skip_spans(second);
         }
     }
 

@@ -1,6 +1,5 @@
 -- One more span ends by the second.
-use Rattle.std.proofs.Common.{rules, arith}
-use Rattle.std.proofs.lemmas.Int.{ints}
+use Rattle.std.proofs.Common.{rules}
 use Rattle.std.specs.Prelude.{◌≤ℤ◌}
 use Rattle.gtd_kept.proofs.RoundLemmas.{done-more}
 use Rattle.gtd_kept.proofs.repeat.are_done_by.Goals as goal

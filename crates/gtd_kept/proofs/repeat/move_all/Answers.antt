@@ -1,7 +1,6 @@
 -- The next span is the one that was there, and it ends by the second, so that what it is moved to can be counted.
 use Rattle.std.proofs.Common.{rules, arith, ◌<◌, ◌∙◌, length}
 use Rattle.std.proofs.lemmas.Int.{ints}
-use Rattle.std.specs.Prelude.{◌≤ℤ◌}
 use Rattle.gtd_spans.specs.facts.OneList.{same-interval}
 use Rattle.gtd_kept.proofs.RoundLemmas.{done-next, moved-next}
 use Rattle.gtd_kept.proofs.repeat.move_all.Goals as goal
