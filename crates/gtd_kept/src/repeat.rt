@@ -1,8 +1,8 @@
 //! The spans of a period, from which all later ones follow.
 
-ghost use Rattle.std.specs.Prelude.{◌≡◌, ◌++◌, ◌∷◌, [], IsTrue, ◌+◌, ◌≤◌, ◌*ℤ◌, ◌≤ℤ◌, ◌<ℤ◌, pos, length};
+ghost use Rattle.std.specs.Prelude.{◌≡◌, ◌++◌, ◌∷◌, [], IsTrue, ◌+◌, ◌≤◌, ◌+ℤ◌, ◌*ℤ◌, ◌≤ℤ◌, ◌<ℤ◌, pos, length, map};
 ghost use Rattle.gtd_core.specs.Limits.{day_seconds, first_horizon_day};
-ghost use Rattle.gtd_kept.specs.Repeating.{AreLastTold, IsPlace, KeepsNone};
+ghost use Rattle.gtd_kept.specs.Repeating.{AllDoneBy, AreLastTold, IsPlace, IsWhole, KeepsNone, moved};
 ghost use Rattle.gtd_kept.specs.facts.RepeatProps.{AreLastTold-prop, IsPlace-prop, KeepsNone-prop};
 
 use crate::room::at_most_kept;
@@ -58,7 +58,7 @@ pub struct Repeat {
 }
 
 impl Repeat {
-    ghost use Rattle.std.specs.Prelude.{◌≡◌, ◌≤◌, ◌⊎◌, ◌+ℤ◌, ◌≤ℤ◌, ◌<ℤ◌, ◌<◌, ◌∷◌, ◌++◌, [], List, length, drop};
+    ghost use Rattle.std.specs.Prelude.{◌≡◌, ◌≤◌, ◌⊎◌, ◌+ℤ◌, ◌≤ℤ◌, ◌<ℤ◌, ◌<◌, ◌∷◌, ◌++◌, [], List, length, drop, map, pos};
     ghost use Rattle.std.specs.Prelude.{IfNone, IfOk, IfSome, IsTrue, IsFalse, MatchOption};
     ghost use Rattle.gtd_core.specs.Seconds.{Interval};
     ghost use Rattle.gtd_core.specs.Whole.{whole};
@@ -67,7 +67,7 @@ impl Repeat {
     ghost use Rattle.gtd_spans.specs.Skipping.{LeavesOut};
     ghost use Rattle.gtd_spans.specs.Sweeping.{Takes};
     ghost use Rattle.gtd_recur.specs.Periods.{period_seconds};
-    ghost use Rattle.gtd_kept.specs.Repeating.{IsRepeating, later, to_come};
+    ghost use Rattle.gtd_kept.specs.Repeating.{AllDoneBy, IsRepeating, IsWhole, later, moved, to_come};
     ghost use Rattle.gtd_kept.specs.Kept.{kept_list, last_told, HasKept, CanBeginAgain, IsLapEnded, rest_of, whole_of};
     ghost use Rattle.gtd_kept.specs.declared.repeat.Stage.TheVariants.{Learning, Repeating, GivenUp};
 
@@ -243,7 +243,90 @@ impl Repeat {
         true
     }
 
-    /// Leaves out the next spans that end by a second.
+    // The seconds of the whole periods from the end of the last span to another second, and to the end of the horizon, if there
+    // is such a period.
+    fn whole_periods(&self, last: Sec, second: Sec) -> Option<i64>
+        ensures whole { IfSome result (IsWhole self.now.period) }
+        ensures not_back { IfSome result (λ by. pos 0 ≤ℤ by) }
+        ensures in_time { IfSome result (λ by. (last.0 +ℤ by) ≤ℤ second.0) }
+        ensures inside { IfSome result (λ by. (last.0 +ℤ by) ≤ℤ self.now.horizon.until) }
+    {
+        let latest = self.horizon.until().earlier(second);
+        let past = latest.0.checked_sub(last.0)?;
+        if past < self.period {
+            return None;
+        }
+        Some(whole_part(past, self.period))
+    }
+
+    // Moves all kept spans by some seconds, and with them the second by which they end: the last span that was handed out ended
+    // there.
+    fn move_kept(&mut self, last: Sec, by: i64)
+        requires done { AllDoneBy last.0 self.old.kept.items }
+        requires not_back { pos 0 ≤ℤ by }
+        requires fits { (last.0 +ℤ by) <ℤ pos 9223372036854775808 }
+        requires repeating { IsRepeating self.old.stage }
+        ensures kept { kept_list self.new ≡ map (moved by) (kept_list self.old) }
+        ensures stage { self.new.stage ≡ Repeating (record { 0 = last.0 +ℤ by }) }
+        ensures period { self.new.period ≡ self.old.period }
+        ensures horizon { self.new.horizon ≡ self.old.horizon }
+        ensures count { length self.new.kept.items ≡ length self.old.kept.items }
+        ensures told { self.new.told ≡ self.old.told }
+        ensures lap { self.new.lap ≡ self.old.lap }
+        ensures learnt { self.new.learnt ≡ self.old.learnt }
+        ensures room { self.new.room ≡ self.old.room }
+    {
+        move_all(self.kept.as_mut_slice(), last, by);
+        self.stage = Stage::Repeating(Sec(last.0 + by));
+    }
+
+    // Leaves out the spans of the whole periods that are over by a second.
+    fn skip_periods(&mut self, second: Sec)
+        requires repeating { IsRepeating self.old.stage }
+        ensures leaves { (xs : List Interval) → IsNormal xs → HasKept self.old xs
+            → LeavesOut second.0 (to_come self.old.stage xs) (to_come self.new.stage xs) }
+        ensures kept { (xs : List Interval) → IsNormal xs → HasKept self.old xs → HasKept self.new xs }
+        ensures again { (xs : List Interval) → CanBeginAgain self.old xs → CanBeginAgain self.new xs }
+        ensures ended { IsLapEnded self.old → IsLapEnded self.new }
+        ensures told { self.new.told.items ≡ self.old.told.items }
+        ensures repeating { IsRepeating self.new.stage }
+        ensures room { self.new.room ≡ self.old.room }
+    {
+        let Stage::Repeating(last) = self.stage else {
+            return;
+        };
+        let Some(by) = self.whole_periods(last, second) else {
+            return;
+        };
+        if !are_done_by(self.kept.as_slice(), last) {
+            return;
+        }
+        self.move_kept(last, by);
+    }
+
+    // Leaves out the next spans that end by a second: whole periods at once, and then span by span.
+    #[inline(never)]
+    fn skip_spans(&mut self, second: Sec)
+        requires repeating { IsRepeating self.old.stage }
+        ensures leaves { (xs : List Interval) → IsNormal xs → HasKept self.old xs
+            → LeavesOut second.0 (to_come self.old.stage xs) (to_come self.new.stage xs) }
+        ensures kept { (xs : List Interval) → IsNormal xs → HasKept self.old xs → HasKept self.new xs }
+        ensures again { (xs : List Interval) → CanBeginAgain self.old xs → CanBeginAgain self.new xs }
+        ensures ended { IsLapEnded self.old → IsLapEnded self.new }
+        ensures told { self.new.told.items ≡ self.old.told.items }
+        ensures repeating { IsRepeating self.new.stage }
+        ensures room { self.new.room ≡ self.old.room }
+    {
+        self.skip_periods(second);
+        for _ in 0..u64::MAX {
+            if !self.skips_one(second) {
+                return;
+            }
+        }
+    }
+
+    /// Leaves out the next spans that end by a second. Mostly there is none, since the last span did not end before that.
+    #[inline(always)]
     pub fn skip_to(&mut self, second: Sec)
         requires repeating { IsRepeating self.old.stage }
         ensures leaves { (xs : List Interval) → IsNormal xs → HasKept self.old xs
@@ -255,10 +338,11 @@ impl Repeat {
         ensures repeating { IsRepeating self.new.stage }
         ensures room { self.new.room ≡ self.old.room }
     {
-        for _ in 0..u64::MAX {
-            if !self.skips_one(second) {
-                return;
-            }
+        let Stage::Repeating(last) = self.stage else {
+            return;
+        };
+        if second > last {
+            self.skip_spans(second);
         }
     }
 
@@ -472,6 +556,43 @@ impl Repeat {
         self.lap = 0;
         self.place = 0;
         self.stage = Stage::GivenUp;
+    }
+}
+
+// The seconds of the whole periods in a time.
+fn whole_part(time: i64, period: i64) -> i64
+    requires not_back { pos 0 ≤ℤ time }
+    requires some { pos 0 <ℤ period }
+    ensures whole { IsWhole period result }
+    ensures not_back { pos 0 ≤ℤ result }
+    ensures within { result ≤ℤ time }
+{
+    time - time.rem_euclid(period)
+}
+
+// Whether each span ends by a second.
+fn are_done_by(spans: &[Span], second: Sec) -> bool
+    ensures done { IsTrue result → AllDoneBy second.0 spans.now }
+{
+    for at in 0..spans.len() {
+        if spans[at].until() > second {
+            return false;
+        }
+    }
+    true
+}
+
+// Moves spans that end by a second by some seconds.
+fn move_all(spans: &mut [Span], last: Sec, by: i64)
+    requires done { AllDoneBy last.0 spans.old }
+    requires not_back { pos 0 ≤ℤ by }
+    requires fits { (last.0 +ℤ by) <ℤ pos 9223372036854775808 }
+    ensures moved { spans.new ≡ map (moved by) spans.old }
+{
+    for at in 0..spans.len() {
+        let span = spans[at];
+        let from = span.from().0 + by;
+        spans[at] = Span::between(Sec(from), Sec(span.until().0 + by));
     }
 }
 

@@ -2,7 +2,7 @@
 use Rattle.std.proofs.Common.{◌∙◌}
 use Rattle.gtd_kept.specs.Repeating.{to_come}
 use Rattle.gtd_kept.proofs.SkipFacts.{leaves-more}
-use Rattle.gtd_kept.proofs.repeat.Repeat.skip_to.Goals as goal
+use Rattle.gtd_kept.proofs.repeat.Repeat.skip_spans.Goals as goal
 
 pub returns-then-not-skips_one-clause-leaves : goal.returns-then-not-skips_one-clause-leaves
 returns-then-not-skips_one-clause-leaves c = λ xs n h.

@@ -5,7 +5,7 @@ use Rattle.gtd_spans.specs.Normal.{IsNormal}
 use Rattle.gtd_kept.specs.Kept.{CanBeginAgain, HasKept, IsLapEnded}
 use Rattle.gtd_kept.specs.Repeating.{IsRepeating, to_come}
 use Rattle.gtd_spans.specs.Skipping.{LeavesOut}
-use Rattle.gtd_kept.proofs.repeat.Repeat.skip_to.Given as goal
+use Rattle.gtd_kept.proofs.repeat.Repeat.skip_spans.Given as goal
 
 abbrev pub invariant-loop : goal.invariant-loop
 invariant-loop l = record {
