@@ -1,9 +1,8 @@
 -- After each token the state is that of the definition, so the tree at the end is the one the tokens build.
-use Rattle.std.proofs.Common.{◌≡◌, ℕ, ◌×◌, ◌≤◌, Option, Some, None, length, ap, subst, ◌∙◌, arith}
+use Rattle.std.proofs.Common.{◌≡◌, ℕ, ◌≤◌, Option, Some, None, length, ap, subst, ◌∙◌, arith}
 use Rattle.std.specs.Prelude.{IfSome, IsSome, MatchOption}
 use Rattle.std.proofs.lemmas.Result.{IfOk-weaker}
 use Rattle.gtd_core.specs.Trees.{tree_of}
-use Rattle.gtd_core.specs.declared.domain.Expr.{Expr}
 use Rattle.gtd_text.specs.declared.builder.state.State.{State as Stage}
 use Rattle.gtd_text.specs.Building.{finish}
 use Rattle.gtd_text.specs.BuilderStates.{opened, stage_of}

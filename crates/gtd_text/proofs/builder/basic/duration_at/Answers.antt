@@ -6,7 +6,7 @@ use Rattle.gtd_text.specs.Building.{AfterItem, times}
 use Rattle.gtd_text.specs.Reached.{Reached}
 use Rattle.gtd_text.specs.Fitting.{is_close_brace}
 use Rattle.gtd_text.specs.Summary.{duration_takes}
-use Rattle.gtd_text.proofs.StepLemmas.{duration_closed, duration_empty, duration_front, duration_misfit, duration_more, duration_refused, duration_unended, no_duration_field, not_close_brace}
+use Rattle.gtd_text.proofs.StepLemmas.{duration_closed, duration_empty, duration_misfit, duration_more, duration_refused, duration_unended, no_duration_field, not_close_brace}
 use Rattle.gtd_text.proofs.builder.basic.duration_at.Goals as goal
 
 pub returns-then-not-fits_duration-clause-found : goal.returns-then-not-fits_duration-clause-found
