@@ -12,7 +12,9 @@ abbrev pub invariant-loop-token : goal.invariant-loop-token
 invariant-loop-token l = record {
   past : l.fn.place ≤ l.at;
   inside : l.at ≤ length l.text;
-  so_far : (outer : List Pending) (sum : Sums) (prod : Option Tree) (start : StartParts) → Reached l.text l.fn.place (InDuration outer sum prod start [] zero_parts) → DurationSoFar l.text l.at outer sum prod start l.parts l.letters l.has_field;
+  so_far : (outer : List Pending) (sum : Sums) (prod : Option Tree) (start : StartParts)
+      → Reached l.text l.fn.place (InDuration outer sum prod start [] zero_parts)
+      → DurationSoFar l.text l.at outer sum prod start l.parts l.letters l.has_field;
 }
 
 abbrev pub decreases-loop-token : goal.decreases-loop-token

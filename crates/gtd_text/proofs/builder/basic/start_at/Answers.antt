@@ -21,7 +21,8 @@ loop-token-init c = record {
 
 pub returns-then-not-fits_start-clause-found : goal.returns-then-not-fits_start-clause-found
 returns-then-not-fits_start-clause-found c outer sum prod r =
-    let misfit : start_takes c.loop-token.letters c.in-Some.token.kind ≡ false = sym c.fits_start.ensures ∙ c.if-not-fits_start.true in
+    let misfit : start_takes c.loop-token.letters c.in-Some.token.kind ≡ false =
+    sym c.fits_start.ensures ∙ c.if-not-fits_start.true in
     start_misfit c.args.text.now c.loop-token.at c.in-Some.token outer sum prod c.loop-token.parts c.loop-token.letters
     c.in-Some.ensures.next (ap is_close_parenthesis c.in-Field.is) misfit (c.loop-token.invariant.so_far outer sum prod r)
 
@@ -41,7 +42,8 @@ loop-token-preserved c = record {
   past = omega (arith, c.in-Some.ensures.past, c.loop-token.invariant.past);
   inside = c.in-Some.ensures.inside;
   so_far = λ outer sum prod r.
-      let fit : start_takes c.loop-token.letters c.in-Some.token.kind ≡ true = sym c.fits_start.ensures ∙ c.if-not-fits_start.false in
+      let fit : start_takes c.loop-token.letters c.in-Some.token.kind ≡ true =
+      sym c.fits_start.ensures ∙ c.if-not-fits_start.false in
       start_more c.args.text.now c.loop-token.at c.in-Some.token c.in-Field.letter c.in-Field.value c.in-Field.digits outer sum
       prod c.loop-token.parts c.start_with-parts.result c.loop-token.letters c.with-letters.result c.in-Some.ensures.next
       c.in-Some.ensures.there c.in-Field.is fit c.start_with-parts.ensures c.with-letters.ensures

@@ -11,7 +11,9 @@ abbrev pub invariant-loop-token : goal.invariant-loop-token
 invariant-loop-token l = record {
   past : l.fn.place ≤ l.at;
   inside : l.at ≤ length l.text;
-  so_far : (outer : List Pending) (sum : Sums) (prod : Option Tree) → Reached l.text l.fn.place (InStart outer sum prod [] no_parts) → StartSoFar l.text l.at outer sum prod l.parts l.letters;
+  so_far : (outer : List Pending) (sum : Sums) (prod : Option Tree)
+      → Reached l.text l.fn.place (InStart outer sum prod [] no_parts)
+      → StartSoFar l.text l.at outer sum prod l.parts l.letters;
 }
 
 abbrev pub decreases-loop-token : goal.decreases-loop-token
