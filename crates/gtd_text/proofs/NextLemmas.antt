@@ -9,7 +9,7 @@ use Rattle.gtd_core.specs.declared.fault.TextFault.{TextFault}
 use Rattle.gtd_text.specs.Lexing.{AreSpaces}
 use Rattle.gtd_text.specs.ComputedLexing.{BeginsNoToken, IsFaultAt, IsTokenFault, Reads}
 use Rattle.gtd_text.specs.TokenAt.{token_at, fault_at_front}
-use Rattle.gtd_text.specs.ToCome.{IsNextFrom}
+use Rattle.gtd_text.specs.ToCome.{IsNextFrom, IsThere}
 use Rattle.gtd_text.specs.facts.Lexed.{found}
 use Rattle.gtd_text.specs.facts.TokenForms.{are_computed, computed, fault_agrees}
 use Rattle.gtd_scan.specs.facts.Computed.{no_token}
@@ -46,6 +46,13 @@ next_is text place from (Some next) spaces ends is (token ∷ others) reads =
       ap (λ (t : Token). t ∷ others) same,
       subst (λ (t : Token). Reads text t.to others (length text)) same reads.2,
     )
+
+pub next_there : (text : List ℕ) (place from : ℕ) (next : Option Token) → AreSpaces text place from → token_at text from ≡ next
+    → IfSome next (λ token. IsThere text place token)
+next_there text place from None spaces is = tt
+next_there text place from (Some token) spaces is =
+    let here = found text from token (inside_at text from token is) is in
+    (subst (λ n. AreSpaces text place n) (sym here.from) spaces, here.again)
 
 pub next_past : (text : List ℕ) (place from : ℕ) (next : Option Token) → place ≤ from → token_at text from ≡ next
     → IfSome next (λ token. place < token.to)

@@ -1,6 +1,6 @@
 //! From a text to a domain.
 
-ghost use Rattle.std.specs.Prelude.{◌≡◌, ℕ, List, length, IfOk, IfErr, MatchResult, ◌⊎◌};
+ghost use Rattle.std.specs.Prelude.{◌≡◌, ℕ, List, length, IfOk, IfErr, IfSome, MatchResult, ◌⊎◌};
 ghost use Rattle.gtd_core.specs.Parts.{domain_tree};
 ghost use Rattle.gtd_core.specs.Trees.{Tree};
 ghost use Rattle.gtd_core.specs.declared.fault.TextFault.{TextFault};
@@ -11,6 +11,7 @@ ghost use Rattle.gtd_text.specs.Found.{IsReadable};
 use crate::builder::build_expr;
 use crate::check::first_fault;
 use crate::lexer::NO_MEMORY;
+use gtd_core::laws::leaves_are_valid;
 use gtd_core::{Domain, TextFault};
 use std::alloc::{AllocError, Global};
 
@@ -49,6 +50,43 @@ fn read(alloc: Global, text: &[u8]) -> Result<Domain, TextFault>
     ensures faultless { IfOk result (λ domain. HasNoFault text.now) }
     ensures fault { IfErr result (λ fault. (fault ≡ no_memory) ⊎ IsFault text.now fault) }
 {
+    match read_short(alloc, text) {
+        Ok(Some(domain)) => Ok(domain),
+        Ok(None) => read_checked(alloc, text),
+        Err(_) => match first_fault(text) {
+            Some(fault) => Err(fault),
+            None => Err(NO_MEMORY),
+        },
+    }
+}
+
+// A text of at most this many bytes has no more brackets and no more parentheses than a text may have.
+const MOST_SHORT: usize = 128;
+
+// The domain of a text that is too short to pass a limit, or `None` if the text is longer or has a fault.
+fn read_short(alloc: Global, text: &[u8]) -> Result<Option<Domain>, AllocError>
+    ensures found { IfOk result (λ found. IfSome found (λ domain. StandsFor text.now (domain_tree domain))) }
+    ensures faultless { IfOk result (λ found. IfSome found (λ domain. HasNoFault text.now)) }
+{
+    if MOST_SHORT < text.len() {
+        return Ok(None);
+    }
+    leaves_are_valid();
+    match build_expr(alloc, text)? {
+        Some(expr) => match Domain::new(expr) {
+            Ok(domain) => Ok(Some(domain)),
+            Err(_) => Ok(None),
+        },
+        None => Ok(None),
+    }
+}
+
+// The domain of a text, once it is checked, or its first fault.
+fn read_checked(alloc: Global, text: &[u8]) -> Result<Domain, TextFault>
+    ensures found { IfOk result (λ domain. StandsFor text.now (domain_tree domain)) }
+    ensures faultless { IfOk result (λ domain. HasNoFault text.now) }
+    ensures fault { IfErr result (λ fault. (fault ≡ no_memory) ⊎ IsFault text.now fault) }
+{
     match first_fault(text) {
         Some(fault) => Err(fault),
         None => domain_of(alloc, text).map_err(|_| NO_MEMORY),
@@ -60,9 +98,12 @@ fn domain_of(alloc: Global, text: &[u8]) -> Result<Domain, AllocError>
     requires { IsReadable text.now }
     ensures { IfOk result (λ domain. StandsFor text.now (domain_tree domain)) }
 {
-    match Domain::new(build_expr(alloc, text)?) {
-        Ok(domain) => Ok(domain),
-        // There are as many basic domains as parentheses.
-        Err(_) => unreachable!(),
+    match build_expr(alloc, text)? {
+        Some(expr) => match Domain::new(expr) {
+            Ok(domain) => Ok(domain),
+            // There are as many basic domains as parentheses.
+            Err(_) => unreachable!(),
+        },
+        None => unreachable!(),
     }
 }

@@ -29,7 +29,7 @@ abbrev pub all_fit : List TokenKind → List TokenKind → Bool
 all_fit before [] = may_end before
 all_fit before (token ∷ tokens) = fits before token && all_fit (token ∷ before) tokens
 
-abbrev is_some_field : List TokenKind → Bool
+abbrev pub is_some_field : List TokenKind → Bool
 is_some_field [] = false
 is_some_field (field ∷ fields) = true
 

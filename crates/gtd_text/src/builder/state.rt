@@ -1,6 +1,6 @@
 //! What the tokens so far have built.
 
-use gtd_core::{DurationParts, Expr, Op, Start, StartParts};
+use gtd_core::{Expr, Op};
 
 /// What comes before an item in the same brackets: the left side of a sum, and that of a product.
 #[derive(Drop)]
@@ -9,17 +9,11 @@ pub struct Pending {
     pub product: Option<Expr>,
 }
 
-/// What the tokens so far have left open.
+/// What the items and signs so far have left open. A basic domain is read at once.
 #[derive(Drop)]
 pub enum State {
     /// An item comes next.
     Expecting(Pending),
-    /// Fields of a start come next.
-    InStart(Pending, StartParts),
-    /// A duration comes next.
-    AfterStart(Pending, Start),
-    /// Fields of a duration come next.
-    InDuration(Pending, Start, DurationParts),
     /// An item has ended, and is the last of the term.
     AfterItem(Option<(Op, Expr)>, Expr),
 }

@@ -131,9 +131,9 @@ fn fits_after_field(sign: Option<TokenKind>, letters: Letters, kind: TokenKind) 
     }
 }
 
-// Whether a field of a start may follow fields with these letters.
+/// Whether a field of a start may follow fields with these letters.
 #[inline(always)]
-fn fits_start(letters: Letters, kind: TokenKind) -> bool
+pub fn fits_start(letters: Letters, kind: TokenKind) -> bool
     ensures { result ≡ start_takes letters kind }
 {
     match kind {
@@ -150,8 +150,8 @@ fn fits_start(letters: Letters, kind: TokenKind) -> bool
     }
 }
 
-// Whether a field of a duration may follow fields with these letters.
-fn fits_duration(letters: Letters, kind: TokenKind) -> bool
+/// Whether a field of a duration may follow fields with these letters.
+pub fn fits_duration(letters: Letters, kind: TokenKind) -> bool
     ensures { result ≡ duration_takes letters kind }
 {
     match kind {
