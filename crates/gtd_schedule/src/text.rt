@@ -101,8 +101,10 @@ fn put_direction<O: Output>(
 fn are_alike(text: ScheduleText<'_>, asked: AskedDirections) -> bool
     ensures by_domains { IsTrue result → asked.positive.closed.when ≡ ByDomains }
     ensures alike { IsTrue result → (t : ℤ)
-        → IsClosed text.found.now asked.positive.at.element asked.positive.at.direction text.lines.now.schedule.vehicle t
-        ↔ IsClosed text.found.now asked.negative.at.element asked.negative.at.direction text.lines.now.schedule.vehicle t }
+        → IsClosed text.entry.found.now asked.positive.at.element asked.positive.at.direction
+        text.entry.lines.now.schedule.vehicle t
+        ↔ IsClosed text.entry.found.now asked.negative.at.element asked.negative.at.direction
+        text.entry.lines.now.schedule.vehicle t }
 {
     let (positive, negative) = (asked.positive, asked.negative);
     if negative.closed.hash != positive.closed.hash {
