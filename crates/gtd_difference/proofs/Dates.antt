@@ -1,6 +1,6 @@
 -- While the date stays, a basic domain is as it is without its date.
-use Rattle.std.proofs.Common.{◌≡◌, ◌↔◌, ℕ, ◌+◌, ◌*◌, ◌<◌, ◌≤◌, refl, sym, ◌∙◌, subst, ap, arith, false, true, Bool, ◌||◌}
-use Rattle.std.proofs.Common.{Option, Some, None, is_some, inl, inr}
+use Rattle.std.proofs.Common.{◌≡◌, ◌↔◌, ℕ, ◌+◌, ◌*◌, ◌<◌, refl, sym, ◌∙◌, subst, ap, arith, false, true, Bool, ◌||◌}
+use Rattle.std.proofs.Common.{is_some, inl}
 use Rattle.std.specs.Prelude.{ℤ, pos, ◌+ℤ◌, ◌-ℤ◌, ◌*ℤ◌, ◌≤ℤ◌, ◌<ℤ◌, IsTrue}
 use Rattle.std.proofs.lemmas.Int.{ints}
 use Rattle.gtd_core.specs.Ranges.{bound_of}

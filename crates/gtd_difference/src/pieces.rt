@@ -50,8 +50,27 @@ const STEPS_OF_A_START: i64 = 4;
 // How many basic domains are looked at in the time in which one is fixed, and compared with what is remembered.
 const STEPS_OF_A_LEAF: i64 = 3;
 
+// How many periods may be gone over at first.
+const FIRST_PERIODS: i64 = 4;
+
 // The seconds, about 90 days, that may be swept in the time of pieces that are of no use.
 const SECONDS_TO_TRY: i64 = 7_776_000;
+
+// How often basic domains begin in a week on average, or less often; and in one in which each date holds.
+#[derive(Clone, Copy)]
+struct Starts {
+    some: i64,
+    most: i64,
+}
+
+impl Starts {
+    fn and(self, other: Starts) -> Starts {
+        Starts {
+            some: self.some.saturating_add(other.some),
+            most: self.most.saturating_add(other.most),
+        }
+    }
+}
 
 // A second from the given one on, before which the expression with fixed dates has none. It is looked for up to the last second,
 // stay by stay.
@@ -121,7 +140,7 @@ fn none_until(
     }
     let period = longest_period(states);
     let repeated = Sec(at.0 + period.seconds());
-    let last = until.earlier(repeated);
+    let last = days.until().earlier(repeated);
     let reached = none_fixed_until(states, at, last, days, steps);
     if reached.0 >= repeated.0 {
         return Piece {
@@ -157,13 +176,16 @@ fn steps_for(seconds: i64, weekly: i64) -> i64 {
     seconds.saturating_mul(weekly) / WEEK_SECONDS
 }
 
-// The steps that are taken at first: those of one period with so many starts each week, and some more. For each start there are two
-// stays, each of which is found and gone over.
+// The steps that are taken at first: those of a few periods with so many starts each week. For each start there are two stays, each
+// of which is found and gone over.
 fn first_steps(period: Period, starts: i64, leaves: i64) -> i64 {
-    let of_a_start = leaves.saturating_add(STEPS_OF_A_STAY).saturating_mul(3);
+    let of_a_start = leaves.saturating_add(STEPS_OF_A_STAY).saturating_mul(2);
     let of_a_week = starts.saturating_mul(of_a_start);
+    let of_a_period = steps_for(period.seconds(), of_a_week);
     let more = steps_for(SECONDS_TO_TRY, weekly_steps(starts, leaves));
-    steps_for(period.seconds(), of_a_week).saturating_add(more)
+    of_a_period
+        .saturating_mul(FIRST_PERIODS)
+        .saturating_add(more)
 }
 
 // The expressions that never have a second, and one more if it is new and not too many are remembered.
@@ -192,7 +214,7 @@ fn none_by_pieces(
     states: &mut ExprStates,
     from: Sec,
     days: Horizon,
-    starts: i64,
+    starts: Starts,
 ) -> Result<Sec, AllocError>
     requires known { AreKnown (whole days).until states.old }
     requires begun { (whole days).from ≤ℤ from.0 }
@@ -202,8 +224,8 @@ fn none_by_pieces(
     let end = days.until();
     let leaves = leaves_of(states);
     let each = leaves.saturating_mul(STEPS_OF_A_LEAF);
-    let weekly = weekly_steps(starts, leaves);
-    let mut steps = first_steps(longest_period(states), starts, leaves);
+    let weekly = weekly_steps(starts.some, leaves);
+    let mut steps = first_steps(longest_period(states), starts.most, leaves);
     let mut rest = MOST_STEPS;
     let mut fresh = MOST_FORMS;
     let mut memory = Memory::Empty;
@@ -239,32 +261,33 @@ fn daily_starts(parts: &StartParts) -> i64 {
     }
 }
 
-// The same in a week on average, or less often, if the duration has no more to do with it.
-fn weekly_starts_of(parts: &StartParts) -> i64 {
-    let mut starts = daily_starts(parts).saturating_mul(WEEK_DAYS);
+// The same in a week.
+fn starts_of_basic(parts: &StartParts) -> Starts {
+    let most = daily_starts(parts).saturating_mul(WEEK_DAYS);
+    let mut some = most;
     if parts.year.is_some() {
-        starts /= CYCLE_YEARS;
+        some /= CYCLE_YEARS;
     }
     if parts.month.is_some() {
-        starts /= YEAR_MONTHS;
+        some /= YEAR_MONTHS;
     }
     if parts.week.is_some() {
-        starts /= YEAR_WEEKS;
+        some /= YEAR_WEEKS;
     }
     if parts.day.is_some() || parts.nth.is_some() || parts.nth_back.is_some() {
-        starts /= MONTH_DAYS;
+        some /= MONTH_DAYS;
     }
     if parts.weekdays != 0 {
-        starts /= WEEK_DAYS;
+        some /= WEEK_DAYS;
     }
-    starts
+    Starts { some, most }
 }
 
-// How often the basic domains of an expression begin in a week, or less often if they give a date.
-fn weekly_starts(expr: &Expr) -> i64 {
+// How often the basic domains of an expression begin in a week.
+fn starts_of(expr: &Expr) -> Starts {
     match expr {
-        Expr::Leaf(basic) => weekly_starts_of(&basic.start.parts()),
-        Expr::Join(_, left, right) => weekly_starts(left).saturating_add(weekly_starts(right)),
+        Expr::Leaf(basic) => starts_of_basic(&basic.start.parts()),
+        Expr::Join(_, left, right) => starts_of(left).and(starts_of(right)),
     }
 }
 
@@ -288,8 +311,8 @@ pub(crate) fn none_alone_until(
     }
     let expr = domain.expr();
     let other_expr = other.expr();
-    let starts = weekly_starts(expr).saturating_add(weekly_starts(other_expr));
-    if starts < FEW_STARTS {
+    let starts = starts_of(expr).and(starts_of(other_expr));
+    if starts.some < FEW_STARTS {
         return Ok(from);
     }
     let held = states_of(alloc, expr, days)?;

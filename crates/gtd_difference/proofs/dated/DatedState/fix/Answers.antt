@@ -1,6 +1,6 @@
 -- If a date holds from a second on from which no stretch lasts any more, a basic domain is as it is without its date.
-use Rattle.std.proofs.Common.{rules, arith, ◌≡◌, ◌↔◌, sym, subst, FitsSigned, to_z-of_z, w64}
-use Rattle.std.specs.Prelude.{ℤ, ◌-ℤ◌, ◌≤ℤ◌, IsTrue}
+use Rattle.std.proofs.Common.{rules, arith, ◌↔◌, sym, subst, FitsSigned, to_z-of_z, w64}
+use Rattle.std.specs.Prelude.{◌-ℤ◌, ◌≤ℤ◌, IsTrue}
 use Rattle.std.proofs.lemmas.Int.{ints}
 use Rattle.gtd_core.specs.declared.domain.Domain.{Domain}
 use Rattle.gtd_eval.specs.Membership.{InDomain}

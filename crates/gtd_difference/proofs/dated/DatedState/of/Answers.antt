@@ -1,15 +1,9 @@
 -- The three basic domains are the one, the one without its date, and the days of its date.
-use Rattle.std.proofs.Common.{rules, arith, ◌≡◌, ◌∙◌, ap, refl, sym, subst, FitsSigned, to_z-of_z, w64}
-use Rattle.std.specs.Prelude.{ℤ, pos, ◌≤ℤ◌}
+use Rattle.std.proofs.Common.{rules, arith, ◌∙◌, ap, refl, sym, subst, FitsSigned, to_z-of_z, w64}
 use Rattle.std.proofs.lemmas.Int.{ints}
 use Rattle.gtd_core.specs.Parts.{domain_tree, duration_parts, start_parts}
-use Rattle.gtd_core.specs.Ranges.{bound_of}
-use Rattle.gtd_core.specs.Trees.{Tree, Single}
 use Rattle.gtd_core.specs.declared.domain.Domain.{Domain}
-use Rattle.gtd_core.specs.declared.duration.DurationParts.{DurationParts}
-use Rattle.gtd_core.specs.declared.start.StartParts.{StartParts}
 use Rattle.gtd_eval.specs.Periods.{AllRepeat, period_seconds}
-use Rattle.gtd_difference.specs.Dates.{clock_parts, date_parts, one_day}
 use Rattle.gtd_difference.proofs.Dates.{undated}
 use Rattle.gtd_difference.proofs.dated.DatedState.of.Goals as goal
 
