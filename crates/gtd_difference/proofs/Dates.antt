@@ -54,10 +54,10 @@ same-day b c m n k low first after before at = omega (arith, ints, low, first, a
 pub on-date : (p : StartParts) (b n : ℤ) (hour minute second : ℕ) → IsTrue (gives_clock p) → IsTimeOf b n hour minute second
     → InStretches (date_parts p) one_day b → HoldsOn p n
 unfolding InStretches
-on-date p b n hour minute second clock time (c, end, (m, h, mi, s, first, on, no_hour, no_minute, no_second), stop, after, before) =
+on-date p b n hour minute second clock time (c, end, (m, h, mi, s, first, on, no_hour, no_min, no_sec), stop, after, before) =
     let last = ends-by one_day c end stop in
-    let zero_m : mi ≡ 0 = no_minute refl in
-    let zero_s : s ≡ 0 = no_second refl in
+    let zero_m : mi ≡ 0 = no_min refl in
+    let zero_s : s ≡ 0 = no_sec refl in
     let k : 3600 * hour + 60 * minute + second < 86400 = omega (arith, time.clock.0, time.clock.1, time.clock.2) in
     let begin : c ≡ pos 86_400 *ℤ m +ℤ pos 0 =
     rw (← (let e : 3600 * h + 60 * mi + s ≡ 0 = omega (arith, no_hour, zero_m, zero_s) in e)) first.is in

@@ -49,8 +49,8 @@ pub record IsKnown (last : ℤ) (state : BasicState) : Type 0 where
   pub within : state.until.0 ≤ℤ last
   pub held : (t : ℤ) → state.from.0 ≤ℤ t → t <ℤ state.until.0 → IsTrue state.holds ↔ InDomain state.domain t
 
--- Three basic domains are known so. The second, which is the first without its date, repeats after the period; and it has a second
--- exactly if the first has it, if the third has all seconds from which a stretch may last until then.
+-- Three basic domains are known so. The second, which is the first without its date, repeats after the period; and it has a
+-- second exactly if the first has it, if the third has all seconds from which a stretch may last until then.
 pub record IsKnownDated (last : ℤ) (state : DatedState) : Type 0 where
   pub own : IsKnown last state.own
   pub wide : IsKnown last state.wide

@@ -135,9 +135,9 @@ impl DatedState {
         })
     }
 
-    /// Fixes the basic domain as it is at a second: as without its date, if each stretch that has the second or a later one begins
-    /// on the date; and otherwise to hold, or not to hold. The first later second, or an earlier one, at which it is not so any
-    /// more.
+    /// Fixes the basic domain as it is at a second: as without its date, if each stretch that has the second or a later one
+    /// begins on the date; and otherwise to hold, or not to hold. The first later second, or an earlier one, at which it is not
+    /// so any more.
     pub(crate) fn fix(&mut self, at: Sec, days: Horizon, steps: &mut i64) -> Sec
         requires known { IsKnownDated (whole days).until self.old }
         requires inside { Within (whole days) at.0 }

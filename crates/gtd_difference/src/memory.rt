@@ -117,7 +117,8 @@ fn repeated(domain: &Domain) -> Option<Form>
 
 // The form of a basic domain as it is fixed.
 fn form_of_basic(state: &BasicState) -> Option<Form>
-    ensures same { IfSome result (λ form. (t : ℤ) → InForm form t ↔ Fixed state.now.period state.now.holds (InDomain state.now.domain t)) }
+    ensures same { IfSome result (λ form. (t : ℤ)
+        → InForm form t ↔ Fixed state.now.period state.now.holds (InDomain state.now.domain t)) }
 {
     match state.period {
         Some(_) => repeated(&state.domain),

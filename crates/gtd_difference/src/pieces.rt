@@ -176,8 +176,8 @@ fn steps_for(seconds: i64, weekly: i64) -> i64 {
     seconds.saturating_mul(weekly) / WEEK_SECONDS
 }
 
-// The steps that are taken at first: those of a few periods with so many starts each week. For each start there are two stays, each
-// of which is found and gone over.
+// The steps that are taken at first: those of a few periods with so many starts each week. For each start there are two stays,
+// each of which is found and gone over.
 fn first_steps(period: Period, starts: i64, leaves: i64) -> i64 {
     let of_a_start = leaves.saturating_add(STEPS_OF_A_STAY).saturating_mul(2);
     let of_a_week = starts.saturating_mul(of_a_start);
