@@ -34,7 +34,14 @@ pub(crate) enum Memory {
 // A number that most expressions that differ do not share, by the numbers of what comes before.
 fn mark_of(states: &ExprStates, before: u64) -> u64 {
     match states {
-        ExprStates::Basic(state) => mixed(before, u64::from(state.holds)),
+        ExprStates::Basic(state) => {
+            let kind = if state.period.is_some() {
+                2
+            } else {
+                u64::from(state.holds)
+            };
+            mixed(before, kind)
+        }
         ExprStates::Dated(state) => {
             let kind = if state.is_wide {
                 2
