@@ -174,17 +174,21 @@ def compared():
         ("60 minutes of each hour less a date", minutes, often),
         ("40 dates", dates, ""),
         ("half hours in May", "(M5m0){m30}", ""),
+        ("each minute's first second in February", "(M2s0){s1}", ""),
+        ("each minute's first second on a Monday less a date", "(t2s0){s1}", often),
     ):
         one, other = f"[{text}]", f"[{text}]-{never}"
         if taken:
             one, other = f"{one}-{taken}", f"[{other}]-{taken}"
         yield desk(f"{name}, and less 30 February", ["same", one, other])
-    for name, text, taken, days in (
-        ("each minute's first second in February", "(M2s0){s1}", "", 28),
-        ("each minute's first second on a Monday less a date", "(t2s0){s1}", f"-{often}", 52),
+    for name, parts in (
+        ("64 seconds of each minute in February", [f"(M2s{n % 60}){{s1}}" for n in range(64)]),
+        ("64 dates with a second of each minute", [f"(M{1 + n % 12}d{1 + 7 * n % 28}s0){{s1}}" for n in range(64)]),
+        ("64 days of the month with a second of each minute", [f"(d{1 + n % 31}s{7 * n % 60}){{s1}}" for n in range(64)]),
+        ("64 months with a minute of each hour", [f"(M{1 + n % 12}m{7 * n % 60}){{m1}}" for n in range(64)]),
     ):
-        yield desk(f"{name}, and less 30 February", ["same", f"[{text}]{taken}", f"[{text}-{never}]{taken}"],
-                   4 * days * 1440 * 400, "spans")
+        one = f"[{joined(parts)}]"
+        yield desk(f"{name}, and less 30 February", ["same", one, f"{one}-{never}"])
 
 
 def words():

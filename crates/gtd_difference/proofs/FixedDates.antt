@@ -1,5 +1,5 @@
 -- What is left of an expression while the basic domains with a date are fixed, and what that says of the expression.
-use Rattle.std.proofs.Common.{◌≡◌, ◌↔◌, ℕ, zero, suc, sym, refl, subst, arith, inl, inr, Bool, false}
+use Rattle.std.proofs.Common.{◌≡◌, ◌↔◌, ℕ, zero, suc, sym, refl, subst, arith, inl, inr, Bool, true, false}
 use Rattle.std.proofs.Common.{Option, Some, None, MatchOption}
 use Rattle.std.specs.Prelude.{ℤ, pos, ◌+ℤ◌, ◌-ℤ◌, ◌≤ℤ◌, ◌<ℤ◌, IfSome, IsTrue}
 use Rattle.std.proofs.lemmas.Int.{ints, by_lt_z}
@@ -17,10 +17,12 @@ use Rattle.gtd_eval.specs.declared.stay.Stay.{Stay}
 use Rattle.gtd_eval.specs.facts.PeriodFacts.{all-longer, tree-repeats-after}
 use Rattle.gtd_eval.specs.facts.Repeats.{behind}
 use Rattle.gtd_eval.specs.facts.TreeDecisions.{in_tree}
+use Rattle.gtd_difference.specs.Dates.{FixedDate}
 use Rattle.gtd_difference.specs.Difference.{HasNoneAlone, IsFirstAlone}
+use Rattle.gtd_difference.specs.Memory.{IsNever}
 use Rattle.gtd_difference.specs.Pieces.{AreKnown, Fixed, HasNone, HaveShortPeriods, InFixed}
 use Rattle.gtd_difference.specs.declared.states.ExprStates.{ExprStates}
-use Rattle.gtd_difference.specs.declared.states.ExprStates.TheVariants.{Basic, Join'}
+use Rattle.gtd_difference.specs.declared.states.ExprStates.TheVariants.{Basic, Dated, Join'}
 
 -- ---- basic domains
 
@@ -30,6 +32,13 @@ fixed-later : (w : Period) (tree : Tree) (own : Option Period) (holds : Bool) (t
 fixed-later w tree (Some x) holds t r short =
     tree-repeats-after (period_seconds w) tree t (w, refl) (all-longer (period_seconds x) (period_seconds w) tree short r)
 fixed-later w tree None holds t r short = ((λ h. h), (λ h. h))
+
+undated-later : (w : Period) (tree : Tree) (own : Period) (wide holds : Bool) (t : ℤ) → AllRepeat (period_seconds own) tree
+    → period_seconds own ≤ℤ period_seconds w
+    → FixedDate wide holds (InTree tree t) ↔ FixedDate wide holds (InTree tree (t +ℤ period_seconds w))
+undated-later w tree own true holds t r short =
+    tree-repeats-after (period_seconds w) tree t (w, refl) (all-longer (period_seconds own) (period_seconds w) tree short r)
+undated-later w tree own false holds t r short = ((λ h. h), (λ h. h))
 
 -- a period that is found is one after which the basic domain repeats
 pub repeats-if : (o : Option Period) (N : Type 0) (P : Period → Type 0) → MatchOption o N P → IfSome o P
@@ -52,6 +61,7 @@ held-by-stay set at last stay is t after before =
 
 pub short-periods : (v w : ℤ) (states : ExprStates) → v ≤ℤ w → HaveShortPeriods v states → HaveShortPeriods w states
 short-periods v w (Basic state) le h = short-in state.period v w le h
+short-periods v w (Dated state) le h = omega (arith, ints, le, h)
 short-periods v w (Join' op p left right) le h = (short-periods v w left le h.0, short-periods v w right le h.1)
 
 -- what is left repeats after a period that is not shorter than those of the basic domains
@@ -59,6 +69,8 @@ pub fixed-repeats : (w : Period) (states : ExprStates) (last t : ℤ) → AreKno
     → HaveShortPeriods (period_seconds w) states → InFixed states t ↔ InFixed states (t +ℤ period_seconds w)
 fixed-repeats w (Basic state) last t k short =
     fixed-later w (domain_tree state.domain) state.period state.holds t k.repeats short
+fixed-repeats w (Dated state) last t k short =
+    undated-later w (domain_tree state.wide.domain) state.period state.is_wide state.own.holds t k.repeats short
 fixed-repeats w (Join' op p left right) last t k short =
     combined-both op _ _ _ _ (fixed-repeats w left last t k.0 short.0) (fixed-repeats w right last t k.1 short.1)
 
@@ -81,6 +93,17 @@ module _ (set : ℤ → Type 0) (w s until : ℤ) (some : pos 0 <ℤ w) (r : (t 
   none-later v t later before h =
       let b = behind (s -ℤ pos 1) t (omega (arith, ints, later)) in
       steps (suc b.0) t later (let e = b.1 in omega (arith, ints, e)) h
+
+  before : (n : ℕ) (t : ℤ) → (s -ℤ pos n) ≤ℤ t → set t → ⊥
+  before zero t le h = none-later (t +ℤ pos 1) t (omega (arith, ints, le)) (omega (arith, ints)) h
+  before (suc n) t le h =
+      by_lt_z {P = ⊥} t s (λ early. before n (t +ℤ w) (omega (arith, ints, le, some)) ((r t).0 h))
+      (λ late. none-later (t +ℤ pos 1) t late (omega (arith, ints)) h)
+
+  pub never : IsNever set
+  never t h =
+      by_lt_z {P = ⊥} t s (λ early. let b = behind t s early in before (suc b.0) t (let e = b.1 in omega (arith, ints, e)) h)
+      (λ late. none-later (t +ℤ pos 1) t late (omega (arith, ints)) h)
 
 -- one more stay in which the set is not
 pub none-more : (P Q : ℤ → Type 0) (from at last : ℤ) (stay : Stay) → ((t : ℤ) → P t ↔ Q t) → HasNone Q from at

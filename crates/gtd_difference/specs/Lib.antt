@@ -1,4 +1,6 @@
+pub mod Dates
 pub mod Difference
+pub mod Memory
 pub mod Pieces
 pub use Rattle.gtd_core.specs.Seconds
 pub use Rattle.gtd_core.specs.Limits

@@ -5,10 +5,13 @@
 pub use comparison::{Apart, Comparison, Side, compare};
 pub use within::{first_span, is_within};
 
+mod basic_state;
 mod basics;
 mod comparison;
+mod dated;
 mod first;
 pub mod laws;
+mod memory;
 mod pieces;
 mod states;
 mod week;

@@ -7,72 +7,33 @@ ghost use Rattle.gtd_core.specs.Whole.{whole};
 ghost use Rattle.gtd_recur.specs.Periods.{period_seconds};
 ghost use Rattle.gtd_eval.specs.Membership.{InTree};
 ghost use Rattle.gtd_eval.specs.Stays.{IsStay};
+ghost use Rattle.gtd_difference.specs.Difference.{single_of};
 ghost use Rattle.gtd_difference.specs.Pieces.{AreKnown, HaveShortPeriods, InFixed, states_tree};
 
+use crate::basic_state::BasicState;
 use crate::basics::single;
-use gtd_core::{Domain, Expr, Horizon, Op, Sec};
-use gtd_eval::{Period, Stay, period_of, stay_of};
+use crate::dated::DatedState;
+use gtd_core::{Basic, Expr, Horizon, Op, Sec};
+use gtd_eval::{Period, Stay};
 use std::alloc::{AllocError, Global};
-
-/// A basic domain, and seconds at which it stays as it is: each from one on and before another.
-#[derive(Drop)]
-pub(crate) struct BasicState {
-    pub(crate) domain: Domain,
-    /// The period after which it repeats. If there is none, it has a date, or lasts months or years.
-    pub(crate) period: Option<Period>,
-    /// Whether it has these seconds.
-    pub(crate) holds: bool,
-    pub(crate) from: Sec,
-    pub(crate) until: Sec,
-}
-
-impl BasicState {
-    ghost use Rattle.std.specs.Prelude.{◌≡◌, ◌<ℤ◌, ◌≤ℤ◌};
-    ghost use Rattle.gtd_core.specs.Seconds.{Within};
-    ghost use Rattle.gtd_core.specs.Whole.{whole};
-    ghost use Rattle.gtd_difference.specs.Pieces.{IsKnown};
-
-    // The state of a basic domain of which no second is known yet.
-    fn new(domain: Domain, days: Horizon) -> BasicState
-        ensures domain { result.domain ≡ domain }
-        ensures known { IsKnown (whole days).until result }
-    {
-        let period = period_of(&domain);
-        BasicState {
-            domain,
-            period,
-            holds: false,
-            from: days.from(),
-            until: days.from(),
-        }
-    }
-
-    // Finds whether the basic domain has a second, and how long it stays so, unless that is known. To find it takes a step.
-    fn reach(&mut self, at: Sec, days: Horizon, steps: &mut i64)
-        requires known { IsKnown (whole days).until self.old }
-        requires inside { Within (whole days) at.0 }
-        ensures domain { self.new.domain ≡ self.old.domain }
-        ensures period { self.new.period ≡ self.old.period }
-        ensures begun { self.new.from.0 ≤ℤ at.0 }
-        ensures later { at.0 <ℤ self.new.until.0 }
-        ensures known { IsKnown (whole days).until self.new }
-    {
-        if self.from.0 <= at.0 && at.0 < self.until.0 {
-            return;
-        }
-        *steps = steps.saturating_sub(1);
-        let stay = stay_of(&self.domain, at, days);
-        self.holds = stay.holds;
-        self.from = at;
-        self.until = stay.until;
-    }
-}
 
 /// The states of the basic domains of an expression.
 #[derive(Drop)]
 pub(crate) enum ExprStates {
     Basic(BasicState),
+    Dated(DatedState),
     Join(Op, Box<(ExprStates, ExprStates)>),
+}
+
+// The state of a basic domain of which no second is known yet.
+fn state_of(basic: &Basic, days: Horizon) -> ExprStates
+    ensures tree { states_tree result ≡ single_of basic.now }
+    ensures known { AreKnown (whole days).until result }
+{
+    match DatedState::of(basic, days) {
+        Some(state) => ExprStates::Dated(state),
+        None => ExprStates::Basic(BasicState::new(single(basic), days)),
+    }
 }
 
 /// The states of an expression of which no second is known yet.
@@ -81,7 +42,7 @@ pub(crate) fn states_of(alloc: Global, expr: &Expr, days: Horizon) -> Result<Exp
     ensures known { IfOk result (AreKnown (whole days).until) }
 {
     match expr {
-        Expr::Leaf(basic) => Ok(ExprStates::Basic(BasicState::new(single(basic), days))),
+        Expr::Leaf(basic) => Ok(state_of(basic, days)),
         Expr::Join(op, left, right) => {
             let left = states_of(alloc, left, days)?;
             let right = states_of(alloc, right, days)?;
@@ -100,6 +61,7 @@ pub(crate) fn longest_period(states: &ExprStates) -> Period
             Some(period) => period,
             None => Period::Minute,
         },
+        ExprStates::Dated(state) => state.period,
         ExprStates::Join(_, both) => {
             let (left, right) = &**both;
             let first = longest_period(left);
@@ -128,6 +90,7 @@ pub(crate) fn fix(states: &mut ExprStates, at: Sec, days: Horizon, steps: &mut i
             state.reach(at, days, steps);
             state.until
         }
+        ExprStates::Dated(state) => state.fix(at, days, steps),
         ExprStates::Join(_, both) => {
             let (left, right) = &mut **both;
             let first = fix(left, at, days, steps);
@@ -160,6 +123,7 @@ pub(crate) fn fixed_stay(states: &mut ExprStates, at: Sec, days: Horizon, steps:
                 until: state.until,
             }
         }
+        ExprStates::Dated(state) => state.stay(at, days, steps),
         ExprStates::Join(op, both) => {
             let (left, right) = &mut **both;
             let first = fixed_stay(left, at, days, steps);

@@ -1,5 +1,6 @@
 -- The one expression without the other has no second exactly where the one has none alone.
 use Rattle.std.proofs.Common.{◌≡◌, sym, subst}
+use Rattle.std.proofs.lemmas.Result.{IfOk-weaker}
 use Rattle.gtd_core.specs.Parts.{domain_tree}
 use Rattle.gtd_difference.specs.Pieces.{states_tree}
 use Rattle.gtd_difference.specs.declared.states.ExprStates.{ExprStates}
@@ -13,7 +14,8 @@ returns-clause-none c =
     let o = domain_tree c.args.other.now in
     let held = rw c.expr-expr.ensures.value at c.in_ok-held.ensures.tree in
     let taken = rw c.expr-other_expr.ensures.value at c.in_ok-taken.ensures.tree in
-    none-alone d o (states_tree both.0) (states_tree both.1) c.args.from.0 c.none_by_pieces.result.0
+    IfOk-weaker c.none_by_pieces.result _ _ (λ at none.
+    none-alone d o (states_tree both.0) (states_tree both.1) c.args.from.0 at.0
     (subst (λ (v : ExprStates × ExprStates). states_tree v.0 ≡ d) (sym c.in_ok-both.ensures.ok) held)
-    (subst (λ (v : ExprStates × ExprStates). states_tree v.1 ≡ o) (sym c.in_ok-both.ensures.ok) taken)
+    (subst (λ (v : ExprStates × ExprStates). states_tree v.1 ≡ o) (sym c.in_ok-both.ensures.ok) taken) none)
     c.none_by_pieces.ensures.none

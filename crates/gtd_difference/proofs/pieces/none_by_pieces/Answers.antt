@@ -11,6 +11,7 @@ pub loop-init : goal.loop-init
 loop-init c = record {
   tree = refl;
   known = c.requires.known;
+  never = tt;
   later = omega (arith, ints);
   none = λ t later before h. omega (arith, ints, later, before);
 }
@@ -18,11 +19,13 @@ loop-init c = record {
 pub loop-preserved : goal.loop-preserved
 loop-preserved c =
     let i = c.loop.invariant in
-    let until = c.none_until-reached.ensures in
+    let piece = c.none_until-piece.ensures in
+    let until = c.none_until-piece.result.until.0 in
     record {
-      tree = until.tree ∙ i.tree;
-      known = until.known;
-      later = omega (arith, ints, i.later, until.later);
-      none = none-on (InTree (states_tree c.args.states.now)) c.args.from.0 c.loop.at.0 c.none_until-reached.result.0 i.none
-          (subst (λ (x : Tree). HasNone (InTree x) c.loop.at.0 c.none_until-reached.result.0) i.tree until.none);
+      tree = piece.tree ∙ i.tree;
+      known = piece.known;
+      never = c.in_ok-memory.ensures.never;
+      later = omega (arith, ints, i.later, piece.later);
+      none = none-on (InTree (states_tree c.args.states.now)) c.args.from.0 c.loop.at.0 until i.none
+          (subst (λ (x : Tree). HasNone (InTree x) c.loop.at.0 until) i.tree piece.none);
     }

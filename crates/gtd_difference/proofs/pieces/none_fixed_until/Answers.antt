@@ -31,3 +31,9 @@ loop-preserved c =
       none = none-more (InFixed c.loop.states) (InFixed c.args.states.now) c.args.from.0 c.loop.at.0
           (whole c.args.days).until c.fixed_stay-stay.result i.same i.none is no;
     }
+
+pub returns-then-stay-clause-fixed : goal.returns-then-stay-clause-fixed
+returns-then-stay-clause-fixed c = λ t.
+    let a = c.fixed_stay-stay.ensures.fixed t in
+    let b = c.loop.invariant.same t in
+    ((λ h. b.0 (a.0 h)), (λ h. a.1 (b.1 h)))

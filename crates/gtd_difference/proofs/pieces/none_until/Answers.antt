@@ -7,7 +7,7 @@ use Rattle.gtd_recur.specs.Periods.{period_seconds}
 use Rattle.gtd_eval.specs.Membership.{InTree}
 use Rattle.gtd_eval.specs.facts.PeriodFacts.{short-period, some-period}
 use Rattle.gtd_difference.specs.Pieces.{InFixed, states_tree}
-use Rattle.gtd_difference.proofs.FixedDates.{fixed-repeats, none-in, none-later}
+use Rattle.gtd_difference.proofs.FixedDates.{fixed-repeats, never, none-in, none-later}
 use Rattle.gtd_difference.proofs.pieces.none_until.Goals as goal
 
 pub returns-then-reached-repeated-clause-none : goal.returns-then-reached-repeated-clause-none
@@ -47,6 +47,45 @@ returns-then-reached-repeated-clause-none c =
     (none-later (InFixed fixed) (period_seconds w) at reached some
     (λ t. fixed-repeats w fixed end t c.fix-until.ensures.known c.longest_period-period.ensures.longest) far
     c.none_fixed_until-reached.ensures.none until) (omega (arith, ints)) (omega (arith, ints))
+
+pub returns-then-reached-repeated-clause-new : goal.returns-then-reached-repeated-clause-new
+returns-then-reached-repeated-clause-new c = λ new.
+    let at = c.args.at.0 in
+    let end = (whole c.args.days).until in
+    let fixed = c.fix-until.new.states in
+    let until = c.fix-until.result.0 in
+    let reached = c.none_fixed_until-reached.result.0 in
+    let early = c.args.days.not_early in
+    let late = c.args.days.not_late in
+    let inside = c.requires.inside in
+    let past = c.if-reached-repeated.true in
+    let u : FitsSigned w64 c.none_fixed_until-reached.result.0 = search rules in
+    let s : FitsSigned w64 c.args.at.0 = search rules in
+    let w = c.longest_period-period.result in
+    let p : FitsSigned w64 c.seconds.result = search rules in
+    let some = some-period w in
+    let short = short-period w in
+    let far : (at +ℤ period_seconds w) ≤ℤ reached =
+    omega (
+      arith,
+      ints,
+      past,
+      early,
+      late,
+      inside.0,
+      inside.1,
+      some,
+      short,
+      c.seconds.ensures.value,
+      to_z-of_z p,
+      to_z-of_z u,
+      to_z-of_z s,
+    ) in
+    let none =
+    never (InFixed fixed) (period_seconds w) at reached some
+    (λ t. fixed-repeats w fixed end t c.fix-until.ensures.known c.longest_period-period.ensures.longest) far
+    c.none_fixed_until-reached.ensures.none in
+    λ t h. none t ((c.none_fixed_until-reached.ensures.fixed t).0 h)
 
 pub returns-clause-none : goal.returns-clause-none
 returns-clause-none c =

@@ -2,7 +2,7 @@
 use Rattle.gtd_core.specs.Whole.{whole}
 use Rattle.gtd_eval.specs.Membership.{InDomain}
 use Rattle.gtd_difference.proofs.FixedDates.{held-by-stay}
-use Rattle.gtd_difference.proofs.states.BasicState.reach.Goals as goal
+use Rattle.gtd_difference.proofs.basic_state.BasicState.reach.Goals as goal
 
 pub returns-clause-known : goal.returns-clause-known
 returns-clause-known c =

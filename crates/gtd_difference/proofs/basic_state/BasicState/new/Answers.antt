@@ -2,7 +2,7 @@
 use Rattle.std.proofs.Common.{arith}
 use Rattle.std.proofs.lemmas.Int.{ints}
 use Rattle.gtd_difference.proofs.FixedDates.{repeats-if}
-use Rattle.gtd_difference.proofs.states.BasicState.new.Goals as goal
+use Rattle.gtd_difference.proofs.basic_state.BasicState.new.Goals as goal
 
 pub returns-clause-known : goal.returns-clause-known
 returns-clause-known c =
