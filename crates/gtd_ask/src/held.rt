@@ -101,11 +101,13 @@ pub(crate) fn held_alone(
     let (element, direction, vehicle) = (group.element, group.direction, group.vehicle);
     let closed = found.closed_at(element, direction, vehicle, second);
     let change = change_after(alloc, found, element, direction, vehicle, second)?;
-    let Some(until) = change else {
-        let end = look_end(second);
-        return Ok(held_from(group, second, !closed, end, false));
-    };
-    Ok(held_from(group, second, !closed, until, true))
+    match change {
+        Some(until) => Ok(held_from(group, second, !closed, until, true)),
+        None => {
+            let end = look_end(second);
+            Ok(held_from(group, second, !closed, end, false))
+        }
+    }
 }
 
 // Whether it is the state of this group.

@@ -56,8 +56,17 @@ module _ (found : List Restriction) (g : Group) (s : Sec) (closed : Bool) (o : O
         turns = λ e. absurd (true≢false (sym e));
       }
 
-pub returns : goal.returns
-returns c = record {
+pub returns-in-Some : goal.returns-in-Some
+returns-in-Some c = record {
   held = rw (c.held_from.ensures.value) (to_change c.args.found.now c.args.group c.args.second c.closed_at-closed.result
       c.in_ok-change.change c.closed_at-closed.ensures.closed c.in_ok-change.ensures.change c.in-Some.until c.in-Some.is);
 }
+
+pub returns-in-None : goal.returns-in-None
+returns-in-None c =
+    let end = c.look_end-end.ensures.end in
+    record {
+      held = rw (c.held_from-in-None.ensures.value) (to_end c.args.found.now c.args.group c.args.second
+          c.closed_at-closed.result c.in_ok-change.change c.closed_at-closed.ensures.closed c.in_ok-change.ensures.change
+          c.look_end-end.result end.0 end.1 end.2 c.in-None.is);
+    }

@@ -1,5 +1,5 @@
 -- Nothing is held, and a walk over no days says nothing.
-use Rattle.std.proofs.Common.{◌≡◌, sym, subst, List}
+use Rattle.std.proofs.Common.{◌≡◌, sym, subst, List, []}
 use Rattle.std.specs.List.{All}
 use Rattle.gtd_ask.specs.Known.{IsHeld}
 use Rattle.gtd_ask.specs.declared.held.Held.{Held}

@@ -13,7 +13,7 @@ use Rattle.gtd_ask.proofs.WalkFacts.{HoldFrom, before, ends}
 use Rattle.gtd_ask.proofs.walk.held_here.Goals as goal
 
 module _ (found : List Restriction) (w : Walk) (x : Interval) (is : w.span ≡ Some x) (walk : IsWalk found w) where
-  rest : List Interval
+  abbrev rest : List Interval
   rest = cursor_list w.cursor
 
   normal : IsNormal (x ∷ rest)
