@@ -116,6 +116,25 @@ fn held_far(alloc: Global, found: &Records, asked: &[Asked], at: usize) -> Resul
     Ok(joined(held, later))
 }
 
+// The state at a question's second: as a walk finds it, or as for one question alone.
+fn held_for(
+    alloc: Global,
+    found: &Records,
+    asked: &[Asked],
+    at: usize,
+    sharing: &mut Sharing,
+) -> Result<Held, AllocError>
+    requires inside { at < length asked.now }
+    requires sharing { IsSharing found.now sharing.old }
+    ensures sharing { IfOk result (λ held. IsSharing found.now sharing.new) }
+    ensures held { IfOk result (IsHeld found.now) }
+{
+    if let Some(held) = held_walking(alloc, found, asked, at, sharing)? {
+        return Ok(held);
+    }
+    held_far(alloc, found, asked, at)
+}
+
 // Holds the state at a question's second, if another question of its group is beside it and it is not told yet.
 fn hold_one(
     alloc: Global,
@@ -132,11 +151,7 @@ fn hold_one(
     if !is_shared(asked, at, one) || is_told(sharing.held.as_slice(), one) {
         return Ok(());
     }
-    let walked = held_walking(alloc, found, asked, at, sharing)?;
-    let held = match walked {
-        Some(held) => held,
-        None => held_far(alloc, found, asked, at)?,
-    };
+    let held = held_for(alloc, found, asked, at, sharing)?;
     sharing.held.push(held)?;
     Ok(())
 }
