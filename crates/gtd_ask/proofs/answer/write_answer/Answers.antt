@@ -2,7 +2,6 @@
 use Rattle.std.proofs.Common.{subst}
 use Rattle.gtd_ask.proofs.LineFacts.{change_day, day_shown, in_horizon, line_is, on_ok}
 use Rattle.gtd_ask.specs.Answers.{IsAnswer}
-use Rattle.gtd_ask.specs.Group.{group_of}
 use Rattle.gtd_ask.specs.Known.{IsGroupOpen, IsKnown}
 use Rattle.gtd_ask.specs.declared.asked.Group.{Group}
 use Rattle.gtd_ask.proofs.answer.write_answer.Goals as goal

@@ -1,5 +1,5 @@
 -- The later state goes on with the earlier one: it is of the same group, and the two leave no second between them.
-use Rattle.std.proofs.Common.{◌≡◌, subst, Bool}
+use Rattle.std.proofs.Common.{subst, Bool}
 use Rattle.gtd_ask.specs.Known.{IsGroupOpen, group_held}
 use Rattle.gtd_ask.specs.declared.asked.Group.{Group}
 use Rattle.gtd_ask.proofs.HeldFacts.{HoldsFrom, both}

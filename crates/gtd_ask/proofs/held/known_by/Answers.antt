@@ -1,6 +1,6 @@
 -- What holds from a second on holds at each of the seconds up to its end, and changes there or not in the days that are looked at.
-use Rattle.std.proofs.Common.{◌≡◌, sym, subst, arith, ◌↔◌, Bool, List, Option, Some, None}
-use Rattle.std.specs.Prelude.{ℤ, pos, ◌*ℤ◌, ◌≤ℤ◌, ◌<ℤ◌, IsTrue, MatchOption}
+use Rattle.std.proofs.Common.{subst, arith, List, Some, None}
+use Rattle.std.specs.Prelude.{ℤ, pos, ◌*ℤ◌, ◌≤ℤ◌, ◌<ℤ◌, IsTrue}
 use Rattle.std.proofs.lemmas.Int.{ints}
 use Rattle.gtd_core.specs.Seconds.{day_of_second}
 use Rattle.gtd_records.specs.Closing.{Restriction}

@@ -1,6 +1,6 @@
 -- The days that are looked at end with those that a horizon may have, where these are fewer.
-use Rattle.std.proofs.Common.{◌≡◌, refl, inr, arith}
-use Rattle.std.specs.Prelude.{ℤ, pos, ◌+ℤ◌, ◌<ℤ◌}
+use Rattle.std.proofs.Common.{refl, inr, arith}
+use Rattle.std.specs.Prelude.{pos, ◌+ℤ◌, ◌<ℤ◌}
 use Rattle.std.proofs.lemmas.Int.{ints}
 use Rattle.std.proofs.lemmas.Grind.{common_steps}
 use Rattle.gtd_core.specs.Limits.{horizons_end, most_horizon_days}

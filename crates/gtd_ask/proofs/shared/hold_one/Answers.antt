@@ -1,5 +1,4 @@
 -- One more state that is right is held.
-use Rattle.std.proofs.Common.{◌≡◌}
 use Rattle.std.proofs.lemmas.List.Elements.{All-push}
 use Rattle.gtd_ask.specs.Known.{IsHeld}
 use Rattle.gtd_ask.proofs.shared.hold_one.Goals as goal

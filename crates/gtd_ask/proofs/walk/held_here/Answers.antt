@@ -1,5 +1,5 @@
 -- Before the first span that is not passed nothing is open, all is in it, and nothing just after it.
-use Rattle.std.proofs.Common.{◌≡◌, sym, subst, arith, ◌↔◌, false, true, Option, Some, None, ◌∷◌, List}
+use Rattle.std.proofs.Common.{◌≡◌, subst, arith, ◌↔◌, false, true, Option, Some, ◌∷◌, List}
 use Rattle.std.specs.Prelude.{ℤ, ◌≤ℤ◌, ◌<ℤ◌, IsTrue, MatchOption, ⊤}
 use Rattle.std.proofs.lemmas.Int.{ints}
 use Rattle.gtd_core.specs.Seconds.{Interval}

@@ -1,5 +1,5 @@
 -- The spans of the cursor, with the first that is taken, hold the seconds at which the group is open.
-use Rattle.std.proofs.Common.{◌≡◌, ◌∙◌, sym, subst, ap, List}
+use Rattle.std.proofs.Common.{sym, subst, List}
 use Rattle.std.specs.Prelude.{ℤ, pos, ◌*ℤ◌}
 use Rattle.gtd_core.specs.Seconds.{Interval}
 use Rattle.gtd_eval.specs.Cursors.{cursor_list}

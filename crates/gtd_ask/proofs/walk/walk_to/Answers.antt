@@ -1,11 +1,11 @@
 -- A span that ends by the second is passed: the next one is taken.
-use Rattle.std.proofs.Common.{◌≡◌, sym, subst, arith, ap, ◌↔◌, List, ◌∷◌, Option, Some, None}
-use Rattle.std.specs.Prelude.{ℤ, ◌≤ℤ◌, ◌<ℤ◌}
+use Rattle.std.proofs.Common.{sym, subst, arith, ap, ◌∷◌, Option}
+use Rattle.std.specs.Prelude.{◌≤ℤ◌}
 use Rattle.std.proofs.lemmas.Int.{ints}
 use Rattle.gtd_core.specs.Seconds.{Interval}
 use Rattle.gtd_core.specs.declared.second.Sec.{Sec}
 use Rattle.gtd_eval.specs.Cursors.{cursor_list}
-use Rattle.gtd_spans.specs.Normal.{Holds, IsNormal}
+use Rattle.gtd_spans.specs.Normal.{IsNormal}
 use Rattle.gtd_ask.specs.Known.{IsGroupOpen}
 use Rattle.gtd_ask.specs.Walks.{with_taken}
 use Rattle.gtd_ask.proofs.WalkFacts.{HoldFrom, passed, taken_is}
