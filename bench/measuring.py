@@ -31,14 +31,17 @@ def program(words, name="gtd"):
     return os.path.abspath(path)
 
 
-def run(command, limit, report):
-    """One run whose output is discarded: its seconds by the clock and of the processor, its peak memory, its status.
+def run(command, limit, report, given=os.devnull):
+    """One run whose output is discarded, with a file as its input: its seconds by the clock and of the processor, its peak memory,
+    its status.
 
     Until a new process becomes another program, the kernel charges it with the pages of the process that started it, and
     Python has 14 MiB of them. So /usr/bin/time, which has 2 MiB, measures the peak and writes it to the file `report`."""
     timed = ["/usr/bin/time", "-q", "-f", "%U %S %M", "-o", report, "timeout", str(limit), *command]
     begun = time.perf_counter()
-    status = subprocess.run(timed, stdout=subprocess.DEVNULL, stderr=subprocess.DEVNULL, check=False).returncode
+    with open(given, "rb") as asked:
+        ended = subprocess.run(timed, stdin=asked, stdout=subprocess.DEVNULL, stderr=subprocess.DEVNULL, check=False)
+    status = ended.returncode
     elapsed = time.perf_counter() - begun
     with open(report, encoding="ascii") as file:
         user, system, kibibytes = file.read().split()

@@ -36,11 +36,11 @@ def ending(case, run):
 
 def least(case, program, report):
     """The run of a case that took least, of up to `RUNS` while it is slow."""
-    best = measuring.run([program, *case.words], max(LIMIT, goal(case)), report)
+    best = measuring.run([program, *case.words], max(LIMIT, goal(case)), report, case.given)
     for _ in range(RUNS - 1):
         if ending(case, best) != "slow":
             break
-        again = measuring.run([program, *case.words], max(LIMIT, goal(case)), report)
+        again = measuring.run([program, *case.words], max(LIMIT, goal(case)), report, case.given)
         best = min(best, again, key=lambda run: run.processor)
     return best
 

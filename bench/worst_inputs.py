@@ -24,12 +24,14 @@ NEVER = "(f11d8){y100}"  # the first Sunday of a month is never its eighth day
 
 
 class Case(NamedTuple):
-    """A command; what it goes over one by one and how many, if these are so many that they decide its time; its program."""
+    """A command; what it goes over one by one and how many, if these are so many that they decide its time; its program; and a
+    file that it reads from standard input."""
     name: str
     words: list
     counted: int = 0
     what: str = ""
     program: str = "gtd"
+    given: str = os.devnull
 
 
 def desk(name, words, counted=0, what=""):
@@ -400,6 +402,23 @@ def changes(folder):
                ["now", folder.elements("changes_hours", hours), MOMENT, "11"], days, "days")
 
 
+def questions(folder):
+    """Questions about one element with the most rows: in a year, and in three centuries."""
+    dated = [f"(M{n % 12 + 1}d{n // 12 % 28 + 1}h{n // 336 % 24}m{n // 8_064 % 60}){{h2}}" for n in range(MOST_ROWS)]
+    joined_rows = [f"[(M{n % 12 + 1}){{M1}}]*[(d{n // 12 % 28 + 1}h{n // 336 % 24}m{n // 8_064 % 60}){{h1}}]"
+                   for n in range(MOST_ROWS)]
+    always = [f"(t{n % 7 + 1}h{n // 7 % 24}m{n // 168 % 60}s{n // 10_080 % 60}){{m1}}" for n in range(MOST_ROWS)]
+    for name, rows in (("dates", dated), ("days of months", joined_rows), ("minutes of weeks", always)):
+        file = folder.rows(f"asked_{name.replace(' ', '_')}", rows)
+        for count, first, days in ((20, 2024, 366), (1_000, 2024, 366), (20, 1901, 109_000)):
+            begin = datetime.datetime(first, 1, 1)
+            moments = [begin + datetime.timedelta(seconds=(n * 7_919 % count * days * 86_400) // count) for n in range(count)]
+            text = "element,direction,vehicle,moment\n" + "".join(f"1,positive,11,{it:%Y-%m-%dT%H:%M:%S}\n" for it in moments)
+            given = folder.file(f"questions_{count}_{days}", text)
+            case = desk(f"{count:,} questions in {days:,} days about one element of 65,536 rows, {name}", ["ask", file])
+            yield case._replace(given=given)
+
+
 def covered(folder):
     """Files of one element whose rows leave no second of a period open."""
     minute = [f"(s{n}){{s1}}" for n in range(60)]
@@ -609,6 +628,6 @@ def cases(path):
     yield from domains()
     yield from compared()
     yield from words()
-    for group in (one_row, one_element, cursors, many_elements, states, covered, changes, pictures, rows_in_order, one_field,
+    for group in (one_row, one_element, cursors, many_elements, states, questions, covered, changes, pictures, rows_in_order, one_field,
                   texts_twice, vehicle_lists, rows_alike, tags_of_ways, hours_rows, hours_texts):
         yield from group(folder)

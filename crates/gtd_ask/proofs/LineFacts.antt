@@ -11,9 +11,12 @@ use Rattle.gtd_core.specs.Seconds.{day_of_second, IsHorizonSecond, IsMomentSecon
 use Rattle.gtd_core.specs.declared.second.Sec.{Sec}
 use Rattle.gtd_states.specs.Lines.{change_text, state_word}
 use Rattle.gtd_states.specs.States.{IsLookEnd, second_of}
-use Rattle.gtd_records.specs.Closing.{IsClosed, IsOpen, Restriction}
+use Rattle.gtd_records.specs.Closing.{Restriction}
 use Rattle.gtd_spans.specs.Change.{IsNextChange, NeverChanges}
 use Rattle.gtd_ask.specs.Answers.{IsAnswer, answer_line}
+use Rattle.gtd_ask.specs.Group.{group_of}
+use Rattle.gtd_ask.specs.Known.{IsGroupOpen, IsKnown}
+use Rattle.gtd_ask.specs.declared.held.Known.{Known}
 use Rattle.gtd_ask.specs.declared.question.Question.{Question}
 
 pub on_ok : {T E : Type 0} (r : Result T E) (A B : Type 0) → (A → B) → OnOk r A → OnOk r B
@@ -45,7 +48,7 @@ change_day set s last (Some c) range end h =
 
 -- ---- what it says
 
-turned : (b : Bool) (A : Type 0) → IsTrue b ↔ A → IsTrue (not b) ↔ (A → ⊥)
+pub turned : (b : Bool) (A : Type 0) → IsTrue b ↔ A → IsTrue (not b) ↔ (A → ⊥)
 turned true A is = ((λ e. absurd (true≢false (sym e))), (λ h. absurd (h (is.0 refl))))
 turned false A is = ((λ e a. true≢false (sym (is.1 a))), (λ h. refl))
 
@@ -53,20 +56,16 @@ same_change : (A : Type 0) (B : ℤ → Type 0) (o : Option Sec) → MatchOption
 same_change A B None h = h
 same_change A B (Some c) h = h
 
-pub line_is : (found : List Restriction) (q : Question) (line : List ℕ) (closed : Bool) (o : Option Sec)
-    → IsTrue closed ↔ IsClosed found q.element q.direction q.vehicle q.second.0
-    → ((last : ℤ) × IsLookEnd (day_of_second q.second.0) last × MatchOption o
-    (NeverChanges (IsOpen found q.element q.direction q.vehicle) q.second.0 (last *ℤ pos 86400))
-    (λ c. IsNextChange (IsOpen found q.element q.direction q.vehicle) q.second.0 (last *ℤ pos 86400) c.0))
-    → line ≡ answer_line q (not closed) (second_of o) → IsAnswer found q line
-line_is found q line closed o state change is = record {
-  is_open = not closed;
-  state = turned closed (IsClosed found q.element q.direction q.vehicle q.second.0) state;
-  last = change.0;
-  ends = change.1;
-  change = second_of o;
-  until = same_change (NeverChanges (IsOpen found q.element q.direction q.vehicle) q.second.0 (change.0 *ℤ pos 86400))
-      (λ c. IsNextChange (IsOpen found q.element q.direction q.vehicle) q.second.0 (change.0 *ℤ pos 86400) c) o change.2;
+pub line_is : (found : List Restriction) (q : Question) (line : List ℕ) (k : Known)
+    → IsKnown found (group_of q) q.second.0 k → line ≡ answer_line q k.is_open (second_of k.change) → IsAnswer found q line
+line_is found q line k known is = record {
+  is_open = k.is_open;
+  state = known.state;
+  last = known.last;
+  ends = known.ends;
+  change = second_of k.change;
+  until = same_change (NeverChanges (IsGroupOpen found (group_of q)) q.second.0 (known.last *ℤ pos 86400))
+      (λ c. IsNextChange (IsGroupOpen found (group_of q)) q.second.0 (known.last *ℤ pos 86400) c) k.change known.until;
   whole = is;
 }
 

@@ -1,14 +1,19 @@
 //! The lines of answers.
 
-ghost use Rattle.std.specs.Prelude.{[], ◌∷◌, ◌≡◌, ◌++◌, ◌≤◌, ⊤, length, MatchOption, OnOk};
+ghost use Rattle.std.specs.Prelude.{[], ◌∷◌, ◌≡◌, ◌++◌, ◌≤◌, ⊤, length, IfOk, MatchOption, OnOk};
 ghost use Rattle.gtd_calendar.specs.Calendar.{IsCalendarDay};
 ghost use Rattle.gtd_calendar.specs.Stamp.{stamp_text};
-ghost use Rattle.gtd_core.specs.Seconds.{day_of_second, IsMomentSecond};
+ghost use Rattle.gtd_core.specs.Seconds.{day_of_second, IsHorizonSecond, IsMomentSecond};
 ghost use Rattle.gtd_states.specs.Lines.{change_text, state_head, state_word};
 ghost use Rattle.gtd_states.specs.States.{second_of};
+ghost use Rattle.std.specs.List.{All};
 ghost use Rattle.gtd_ask.specs.Answers.{IsAnswer, answer_line};
+ghost use Rattle.gtd_ask.specs.Known.{IsHeld, IsKnown};
 
+use crate::asked::{Group, group_of};
+use crate::held::{Held, Known};
 use crate::question::Question;
+use crate::shared::known_among;
 use gtd_calendar::write_stamp;
 use gtd_core::Sec;
 use gtd_records::Records;
@@ -82,22 +87,60 @@ fn write_line(
     push_change(line, change)
 }
 
+// What a question asks for, found for it alone.
+fn known_alone(
+    alloc: Global,
+    found: &Records,
+    group: Group,
+    second: Sec,
+) -> Result<Known, AllocError>
+    requires in_range { IsHorizonSecond second.0 }
+    ensures known { IfOk result (IsKnown found.now group second.0) }
+{
+    let Group {
+        element,
+        direction,
+        vehicle,
+    } = group;
+    let closed = found.closed_at(element, direction, vehicle, second);
+    let change = change_after(alloc, found, element, direction, vehicle, second)?;
+    Ok(Known {
+        is_open: !closed,
+        change,
+    })
+}
+
+// What a question asks for: from the states that are held, or else found for it alone.
+fn known_of(
+    alloc: Global,
+    found: &Records,
+    held: &[Held],
+    group: Group,
+    second: Sec,
+) -> Result<Known, AllocError>
+    requires in_range { IsHorizonSecond second.0 }
+    requires held { All (IsHeld found.now) held.now }
+    ensures known { IfOk result (IsKnown found.now group second.0) }
+{
+    if let Some(known) = known_among(held, group, second) {
+        return Ok(known);
+    }
+    known_alone(alloc, found, group, second)
+}
+
 /// Writes the line of a question and its answer, in place of what the buffer held.
 pub(crate) fn write_answer(
     alloc: Global,
     line: &mut Vec<u8>,
     found: &Records,
+    held: &[Held],
     question: &Question,
 ) -> Result<(), AllocError>
     requires in_range { IsMomentSecond question.now.second.0 }
+    requires held { All (IsHeld found.now) held.now }
     ensures line { OnOk result (IsAnswer found.now question.now line.new.items) }
     ensures short { OnOk result (length line.new.items ≤ 100) }
 {
-    let element = question.element;
-    let direction = question.direction;
-    let vehicle = question.vehicle;
-    let second = question.second;
-    let closed = found.closed_at(element, direction, vehicle, second);
-    let change = change_after(alloc, found, element, direction, vehicle, second)?;
-    write_line(line, question, !closed, change)
+    let known = known_of(alloc, found, held, group_of(question), question.second)?;
+    write_line(line, question, known.is_open, known.change)
 }

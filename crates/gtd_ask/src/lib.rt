@@ -10,10 +10,15 @@ pub use run::run_ask;
 pub use words::QuestionText;
 
 mod answer;
+mod asked;
+mod crowded;
 mod fault;
+mod held;
 pub mod laws;
 mod put;
 mod question;
 mod reader;
 mod run;
+mod shared;
+mod walk;
 mod words;

@@ -6,10 +6,13 @@ ghost use Rattle.gtd_core.specs.Seconds.{IsMomentSecond};
 ghost use Rattle.gtd_report.specs.Putting.{PutsText, failures_after_stop, nothing_put};
 ghost use Rattle.gtd_ask.specs.Answers.{AreAnswers, IsAnswer, IsText};
 ghost use Rattle.gtd_ask.specs.Questions.{most_questions};
+ghost use Rattle.gtd_ask.specs.Known.{IsHeld};
 ghost use Rattle.gtd_ask.specs.Putting.{IsOnly};
 
 use crate::answer::write_answer;
+use crate::held::Held;
 use crate::question::Question;
+use crate::shared::held_of;
 use gtd_devices::Output;
 use gtd_records::Records;
 use gtd_report::{Printer, Stop, finish, put_line};
@@ -19,10 +22,12 @@ fn put_answer<O: Output>(
     output: &mut O,
     printer: &mut Printer,
     found: &Records,
+    held: &[Held],
     question: &Question,
 ) -> Result<(), Stop>
     requires countable { O.failure_count output.old < u64.MAX }
     requires in_range { IsMomentSecond question.now.second.0 }
+    requires held { All (IsHeld found.now) held.now }
     requires written { printer.old.progress.written ≤ 1_000_000_000 }
     requires lines { printer.old.progress.lines ≤ most_questions + 1 }
     ensures puts { PutsText (IsOnly (IsAnswer found.now question.now)) result
@@ -31,7 +36,7 @@ fn put_answer<O: Output>(
         × (printer.new.progress.lines ≤ printer.old.progress.lines + 1)) }
     ensures failures { O.failure_count output.new ≡ failures_after_stop result (O.failure_count output.old) }
 {
-    write_answer(printer.alloc, &mut printer.line, found, question)?;
+    write_answer(printer.alloc, &mut printer.line, found, held, question)?;
     put_line(output, &mut printer.progress, printer.line.as_slice())?;
     Ok(())
 }
@@ -41,9 +46,11 @@ fn put_answers<O: Output>(
     output: &mut O,
     printer: &mut Printer,
     found: &Records,
+    held: &[Held],
     questions: &[Question],
 ) -> Result<(), Stop>
     requires countable { O.failure_count output.old < u64.MAX }
+    requires held { All (IsHeld found.now) held.now }
     requires few { length questions.now ≤ most_questions }
     requires in_range { All (λ q. IsMomentSecond q.second.0) questions.now }
     requires written { printer.old.progress.written ≤ 1000 }
@@ -53,7 +60,7 @@ fn put_answers<O: Output>(
     ensures failures { O.failure_count output.new ≡ failures_after_stop result (O.failure_count output.old) }
 {
     for question in questions {
-        put_answer(output, printer, found, question)?;
+        put_answer(output, printer, found, held, question)?;
     }
     Ok(())
 }
@@ -74,11 +81,12 @@ pub(crate) fn put_text<O: Output>(
     ensures ended { OnOk result (IsTrue (O.is_ended output.new)) }
     ensures failures { O.failure_count output.new ≡ failures_after_stop result (O.failure_count output.old) }
 {
+    let held = held_of(printer.alloc, found, questions)?;
     put_line(
         output,
         &mut printer.progress,
         b"element,direction,vehicle,moment,state,until\n",
     )?;
-    put_answers(output, printer, found, questions)?;
+    put_answers(output, printer, found, held.as_slice(), questions)?;
     finish(output)
 }

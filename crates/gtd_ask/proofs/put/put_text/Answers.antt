@@ -12,7 +12,7 @@ use Rattle.gtd_ask.proofs.put.put_text.Goals as goal
 
 pub returns-in_err-put_line-clause-puts : goal.returns-in_err-put_line-clause-puts
 returns-in_err-put_line-clause-puts g c =
-    let p = err_from_is_err_and c.from_residual.result c.from_residual.ensures.1 in
+    let p = err_from_is_err_and c.from_residual-in_err-put_line.result c.from_residual-in_err-put_line.ensures.1 in
     let a = g.O.Output.taken c.args.output.now in
     let b = g.O.Output.taken c.put_line.new.output in
     let e = c.in_err-put_line.ensures in
