@@ -11,6 +11,12 @@ const MOST_NODES: u64 = 64;
 /// For how many spans the kept cursors have room together, at most.
 const MOST_SPANS: u64 = 65_536;
 
+/// For how many spans they have room together in a file of few elements.
+const FEW_SPANS: u64 = 16_384;
+
+/// For how many spans more they have room with each element in a direction, between these two.
+const SPANS_OF_A_DIRECTION: u64 = 8;
+
 /// For how many spans a cursor has room for each of its nodes, and once more: 16 of a period, and as many that came before these
 /// were known.
 const SPANS_OF_A_NODE: u64 = 32;
@@ -47,15 +53,22 @@ fn place_of(hash: u32, places: usize) -> usize {
     }
 }
 
+// For how many spans the cursors that are kept for so many elements in a direction have room together.
+fn spans_for(directions: usize) -> u64 {
+    (directions as u64)
+        .saturating_mul(SPANS_OF_A_DIRECTION)
+        .clamp(FEW_SPANS, MOST_SPANS)
+}
+
 // For how many spans a cursor of so many nodes has room at most.
 fn spans_of(nodes: u64) -> u64 {
     nodes.saturating_add(1).saturating_mul(SPANS_OF_A_NODE)
 }
 
 impl HashPlaces {
-    /// Places for the hashes of so many elements, at which no cursor is kept yet.
-    pub(crate) fn new(alloc: Global, elements: usize) -> Result<HashPlaces, AllocError> {
-        let count = elements.min(MOST_CURSORS);
+    /// Places for the hashes of so many elements in a direction, at which no cursor is kept yet.
+    pub(crate) fn new(alloc: Global, directions: usize) -> Result<HashPlaces, AllocError> {
+        let count = directions.min(MOST_CURSORS);
         let mut places = Vec::with_capacity(alloc, count)?;
         for _ in 0..count {
             places.push(HashPlace {
@@ -65,7 +78,7 @@ impl HashPlaces {
         }
         Ok(HashPlaces {
             places,
-            room: MOST_SPANS,
+            room: spans_for(directions),
         })
     }
 
