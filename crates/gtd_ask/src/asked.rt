@@ -14,9 +14,9 @@ use std::alloc::{AllocError, Global};
 /// The seconds of a day.
 const DAY: i64 = 86_400;
 
-/// More than there are vehicle types, and twice that.
+/// More than there are vehicle types.
 const VEHICLES: u64 = 128;
-
+/// Twice that: one for each direction.
 const SIDES: u64 = 256;
 
 /// What a question is about: an element in a direction, for a vehicle type.

@@ -141,7 +141,7 @@ pub(crate) fn joined(earlier: Held, later: Held) -> Held
     }
 }
 
-/// What is asked for at a second of a group, if this tells it.
+/// The state of a group at a second and its change, if a held state shows both.
 pub(crate) fn known_by(held: &Held, group: Group, second: Sec) -> Option<Known>
     requires in_range { IsHorizonSecond second.0 }
     ensures known { (found : List Restriction) → IsHeld found held.now → IfSome result (IsKnown found group second.0) }

@@ -31,7 +31,7 @@ struct Sharing {
     days: i64,
 }
 
-// Whether the state that was held last tells what is asked for.
+// Whether the state that was held last answers a question.
 fn is_told(held: &[Held], one: Asked) -> bool {
     match held.last() {
         Some(last) => known_by(last, one.group(), one.second).is_some(),
@@ -135,7 +135,7 @@ fn held_for(
     held_far(alloc, found, asked, at)
 }
 
-// Holds the state at a question's second, if another question of its group is beside it and it is not told yet.
+// Holds the state at a question's second, if another question of its group is beside it and no held state answers it yet.
 fn hold_one(
     alloc: Global,
     found: &Records,
@@ -236,7 +236,7 @@ fn count_until(held: &[Held], number: u64, second: Sec) -> usize {
     from
 }
 
-/// What is asked for at a second of a group, if one of these states tells it.
+/// The state of a group at a second and its change, if one of the held states shows both.
 pub(crate) fn known_among(held: &[Held], group: Group, second: Sec) -> Option<Known>
     requires in_range { IsHorizonSecond second.0 }
     ensures known { (found : List Restriction) → All (IsHeld found) held.now
