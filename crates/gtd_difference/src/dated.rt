@@ -94,7 +94,7 @@ pub(crate) struct DatedState {
 }
 
 impl DatedState {
-    ghost use Rattle.std.specs.Prelude.{◌≡◌, ◌↔◌, ◌<ℤ◌, ◌≤ℤ◌, ℤ, IfSome};
+    ghost use Rattle.std.specs.Prelude.{◌≡◌, ◌↔◌, ◌<ℤ◌, ◌≤ℤ◌, ℤ, IfSome, IsTrue, true};
     ghost use Rattle.gtd_core.specs.Parts.{domain_tree};
     ghost use Rattle.gtd_core.specs.Seconds.{Within};
     ghost use Rattle.gtd_core.specs.Whole.{whole};
@@ -135,6 +135,29 @@ impl DatedState {
         })
     }
 
+    // Whether each stretch that has a second at which the date holds, or a later one while it stays, is known to begin on the
+    // date: the date holds for as long as a stretch lasts, or none has the second before.
+    fn is_begun_on_date(&mut self, at: Sec, days: Horizon, steps: &mut i64) -> bool
+        requires known { IsKnownDated (whole days).until self.old }
+        requires inside { Within (whole days) at.0 }
+        requires holds { self.old.date.holds ≡ true }
+        requires begun { self.old.date.from.0 ≤ℤ at.0 }
+        ensures own { self.new.own ≡ self.old.own }
+        ensures date { self.new.date ≡ self.old.date }
+        ensures known { IsKnownDated (whole days).until self.new }
+        ensures begun { IsTrue result → (t : ℤ) → at.0 ≤ℤ t → t <ℤ self.old.date.until.0
+            → InDomain self.new.wide.domain t ↔ InDomain self.old.own.domain t }
+    {
+        if self.date.from.0 <= at.0 - self.longest {
+            return true;
+        }
+        if at.0 <= days.from().0 {
+            return false;
+        }
+        self.wide.reach(Sec(at.0 - 1), days, steps);
+        !self.wide.holds
+    }
+
     /// Fixes the basic domain as it is at a second: as without its date, if each stretch that has the second or a later one
     /// begins on the date; and otherwise to hold, or not to hold. The first later second, or an earlier one, at which it is not
     /// so any more.
@@ -148,8 +171,7 @@ impl DatedState {
         ensures fixed { (t : ℤ) → at.0 ≤ℤ t → t <ℤ result.0 → InFixedDate self.new t ↔ InDomain self.old.own.domain t }
     {
         self.date.reach(at, days, steps);
-        let begun = at.0 - self.longest;
-        if self.date.holds && self.date.from.0 <= begun {
+        if self.date.holds && self.is_begun_on_date(at, days, steps) {
             self.is_wide = true;
             return self.date.until;
         }
@@ -157,6 +179,7 @@ impl DatedState {
         self.own.reach(at, days, steps);
         self.own.until
     }
+
     /// The stay, at a second, of the basic domain as it is fixed.
     pub(crate) fn stay(&mut self, at: Sec, days: Horizon, steps: &mut i64) -> Stay
         requires known { IsKnownDated (whole days).until self.old }
