@@ -187,6 +187,9 @@ def compared():
         ("64 seconds of each minute in February", [f"(M2s{n % 60}){{s1}}" for n in range(64)]),
         ("64 dates with a second of each minute", [f"(M{1 + n % 12}d{1 + 7 * n % 28}s0){{s1}}" for n in range(64)]),
         ("64 days of the month with a second of each minute", [f"(d{1 + n % 31}s{7 * n % 60}){{s1}}" for n in range(64)]),
+        ("64 weekdays with a second of each minute", [f"(t{1 + n % 7}s{7 * n % 60}){{s1}}" for n in range(64)]),
+        ("64 weekdays of a month with a second of each minute",
+         [f"(t{1 + n % 7}M{1 + n % 12}s{7 * n % 60}){{s1}}" for n in range(64)]),
         ("64 months with a minute of each hour", [f"(M{1 + n % 12}m{7 * n % 60}){{m1}}" for n in range(64)]),
     ):
         one = f"[{joined(parts)}]"
