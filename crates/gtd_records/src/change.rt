@@ -17,6 +17,7 @@ use std::alloc::{AllocError, Global};
 
 // How often the records are asked how long they stay as they are, before anything else is tried, at least and at most.
 const LEAST_STAYS: usize = 3;
+
 const FEW_STAYS: usize = 16;
 
 // An element with n records is asked for MOST_STAYS / (n + 1) stays where its spans are short, before they are gone over.
