@@ -1,5 +1,5 @@
 -- Basic domains with a date, and what they are while the date stays.
-use Rattle.std.specs.Prelude.{⊥, ℤ, pos, ◌-ℤ◌, ◌≤ℤ◌, ◌<ℤ◌, ◌↔◌, Bool, true, false, None, Some, IfSome, IsTrue}
+use Rattle.std.specs.Prelude.{ℤ, pos, ◌-ℤ◌, ◌≤ℤ◌, ◌<ℤ◌, ◌↔◌, Bool, true, false, None, Some, IfSome, IsTrue}
 use Rattle.gtd_core.specs.Parts.{domain_tree}
 use Rattle.gtd_core.specs.declared.duration.DurationParts.{DurationParts}
 use Rattle.gtd_core.specs.declared.start.StartParts.{StartParts}

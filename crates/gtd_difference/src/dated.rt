@@ -94,7 +94,7 @@ pub(crate) struct DatedState {
 }
 
 impl DatedState {
-    ghost use Rattle.std.specs.Prelude.{◌≡◌, ◌↔◌, ◌<ℤ◌, ◌≤ℤ◌, ℤ, IfSome, IsTrue, true};
+    ghost use Rattle.std.specs.Prelude.{◌≡◌, ◌↔◌, ◌<ℤ◌, ◌≤ℤ◌, ℤ, IfSome, IsTrue};
     ghost use Rattle.gtd_core.specs.Parts.{domain_tree};
     ghost use Rattle.gtd_core.specs.Seconds.{Within};
     ghost use Rattle.gtd_core.specs.Whole.{whole};
@@ -135,12 +135,11 @@ impl DatedState {
         })
     }
 
-    // Whether each stretch that has a second at which the date holds, or a later one while it stays, is known to begin on the
-    // date: the date holds for as long as a stretch lasts, or none has the second before.
+    // Whether the date holds, and each stretch that has the second, or a later one while the date stays, is known to begin on
+    // it: it has held for as long as a stretch lasts, or no stretch has the second before.
     fn is_begun_on_date(&mut self, at: Sec, days: Horizon, steps: &mut i64) -> bool
         requires known { IsKnownDated (whole days).until self.old }
         requires inside { Within (whole days) at.0 }
-        requires holds { self.old.date.holds ≡ true }
         requires begun { self.old.date.from.0 ≤ℤ at.0 }
         ensures own { self.new.own ≡ self.old.own }
         ensures date { self.new.date ≡ self.old.date }
@@ -148,6 +147,9 @@ impl DatedState {
         ensures begun { IsTrue result → (t : ℤ) → at.0 ≤ℤ t → t <ℤ self.old.date.until.0
             → InDomain self.new.wide.domain t ↔ InDomain self.old.own.domain t }
     {
+        if !self.date.holds {
+            return false;
+        }
         if self.date.from.0 <= at.0 - self.longest {
             return true;
         }
@@ -171,11 +173,10 @@ impl DatedState {
         ensures fixed { (t : ℤ) → at.0 ≤ℤ t → t <ℤ result.0 → InFixedDate self.new t ↔ InDomain self.old.own.domain t }
     {
         self.date.reach(at, days, steps);
-        if self.date.holds && self.is_begun_on_date(at, days, steps) {
-            self.is_wide = true;
+        self.is_wide = self.is_begun_on_date(at, days, steps);
+        if self.is_wide {
             return self.date.until;
         }
-        self.is_wide = false;
         self.own.reach(at, days, steps);
         self.own.until
     }
