@@ -1,6 +1,6 @@
 -- A stretch that began before the date would have the second before it, or have ended.
 use Rattle.std.proofs.Common.{rules, arith, ◌↔◌, sym, subst, FitsSigned, to_z-of_z, w64}
-use Rattle.std.specs.Prelude.{ℤ, pos, ◌-ℤ◌, ◌≤ℤ◌, ◌<ℤ◌, Bool, true, false, not, IsTrue}
+use Rattle.std.specs.Prelude.{ℤ, pos, ◌-ℤ◌, ◌≤ℤ◌, Bool, true, false, not, IsTrue}
 use Rattle.std.proofs.lemmas.Int.{ints}
 use Rattle.gtd_core.specs.Parts.{domain_tree}
 use Rattle.gtd_core.specs.declared.domain.Domain.{Domain}
