@@ -56,7 +56,7 @@ module _ (rows : List Restriction) (marks : List Bool) (indices numbers : List �
       → IsFinerOf from until rows marks indices numbers j n → IsFinerOf from until rows marks indices numbers k n
   finer_of_known from until j k n h x =
       let alike = of_text rows j k h in
-      rw (sym (h.2.2), sym (same_mark j k alike), sym (shares j k alike)) x
+      rw (sym (h.2), sym (same_mark j k alike), sym (shares j k alike)) x
 
 -- a row without a domain
 pub long_of_whole : (from until : ℤ) (x : Interval) (n : ℕ) → IsNormalFor (HoldsAt None) from until (x ∷ [])

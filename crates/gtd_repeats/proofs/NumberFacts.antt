@@ -103,10 +103,10 @@ with_next count k n x xs ys less e =
     rw (e, left) (with_one_more (count - (k + 1)) n x xs)
 
 -- a row without a domain
-pub whole_normal : (x : Interval) → x.from ≡ years_begin → x.until ≡ years_end
-    → IsNormalFor (HoldsAt None) years_begin years_end (x ∷ [])
-whole_normal x e f = record {
-  order = (omega (arith, ints, e, f), tt, tt);
+pub whole_normal : (from until : ℤ) (x : Interval) → x.from ≡ from → x.until ≡ until → from <ℤ until
+    → IsNormalFor (HoldsAt None) from until (x ∷ [])
+whole_normal from until x e f some = record {
+  order = (omega (arith, ints, e, f, some), tt, tt);
   inside = λ t h. elim h [ inl w ↦ (omega (arith, ints, w.0, e), omega (arith, ints, w.1, f), tt) | inr r ↦ absurd r ];
   complete = λ t i. inl (omega (arith, ints, i.0, e), omega (arith, ints, i.1, f));
   maximal = ((λ i. omega (arith, ints, i.0, e)), (λ i. omega (arith, ints, i.1, f)), tt);
@@ -114,7 +114,7 @@ whole_normal x e f = record {
 
 pub whole_number : (x : Interval) (n : ℕ) → x.from ≡ years_begin → x.until ≡ years_end → n ≡ with_interval 0 x
     → IsNumberOf None n
-whole_number x n e f is = (Some (with_interval 0 x), (x ∷ [], whole_normal x e f, refl), is)
+whole_number x n e f is = (Some (with_interval 0 x), (x ∷ [], whole_normal years_begin years_end x e f (omega (arith, ints)), refl), is)
 
 -- ---- a domain without a second in the 28 years
 

@@ -185,8 +185,8 @@ fn next_finer(
     requires shares { ShareNumbers (AreAlikeIn texts.rows.now declared.Seconds) marked.numbers.now }
     requires made { (row : ℕ) → row < length made.now → IsFinerOf (whole days).from (whole days).until texts.rows.now
         marked.marks.now marked.indices.now marked.numbers.now row (get_or made.now row 0) }
-    ensures finer { IfOk result (IsFinerOf (whole days).from (whole days).until texts.rows.now
-        marked.marks.now marked.indices.now marked.numbers.now (length made.now)) }
+    ensures finer { IfOk result (IsFinerOf (whole days).from (whole days).until texts.entry.rows.now
+        marked.entry.marks.now marked.entry.indices.now marked.entry.numbers.now (length made.now)) }
 {
     let row = made.len();
     if let Some(finer) = made.get(texts.known[row]) {
@@ -208,8 +208,8 @@ fn finer_numbers(
     requires many { length marked.numbers.now ≡ length texts.rows.now }
     requires buckets { AreBuckets marked.numbers.now marked.indices.now }
     requires shares { ShareNumbers (AreAlikeIn texts.rows.now declared.Seconds) marked.numbers.now }
-    ensures finer { IfOk result (λ made. AreFiner (whole days).from (whole days).until texts.rows.now
-        marked.marks.now marked.indices.now marked.numbers.now made.items) }
+    ensures finer { IfOk result (λ made. AreFiner (whole days).from (whole days).until texts.entry.rows.now
+        marked.entry.marks.now marked.entry.indices.now marked.entry.numbers.now made.items) }
 {
     let mut made = Vec::new(alloc);
     for _ in 0..texts.rows.len() {
@@ -230,8 +230,8 @@ fn with_days(
     requires many { length before.numbers.items ≡ length texts.rows.now }
     requires shares { ShareNumbers (AreAlikeIn texts.rows.now declared.Seconds) before.numbers.items }
     requires within { (spec.early_begin ≤ℤ (whole days).from) × ((whole days).until ≤ℤ spec.late_end) }
-    ensures many { IfOk result (λ after. length after.numbers.items ≡ length texts.rows.now) }
-    ensures shares { IfOk result (λ after. ShareNumbers (AreAlikeIn texts.rows.now declared.Seconds) after.numbers.items) }
+    ensures many { IfOk result (λ after. length after.numbers.items ≡ length texts.entry.rows.now) }
+    ensures shares { IfOk result (λ after. ShareNumbers (AreAlikeIn texts.entry.rows.now declared.Seconds) after.numbers.items) }
 {
     let indices = buckets_of(alloc, before.numbers.as_slice())?;
     let marks = marks_in(alloc, texts, indices.as_slice(), before.are_open.as_slice())?;
@@ -264,8 +264,8 @@ pub(crate) fn finer_by_years(
     requires known { AreKnown texts.rows.now texts.known.now }
     requires many { length numbers.items ≡ length texts.rows.now }
     requires shares { ShareNumbers (AreAlikeIn texts.rows.now declared.Seconds) numbers.items }
-    ensures many { IfOk result (λ finer. length finer.items ≡ length texts.rows.now) }
-    ensures shares { IfOk result (λ finer. ShareNumbers (AreAlikeIn texts.rows.now declared.Seconds) finer.items) }
+    ensures many { IfOk result (λ finer. length finer.items ≡ length texts.entry.rows.now) }
+    ensures shares { IfOk result (λ finer. ShareNumbers (AreAlikeIn texts.entry.rows.now declared.Seconds) finer.items) }
 {
     let last_day = FIRST_HORIZON_DAY + MOST_HORIZON_DAYS;
     let open = open_numbers(alloc, numbers)?;
