@@ -1,5 +1,4 @@
--- Lemmas of lists, of the run, of where it stops, and of tokens ahead.
+-- Lemmas of the run, of where it stops, and of tokens ahead.
 pub mod Ahead
-pub mod Building
 pub mod Running
 pub mod Stopping

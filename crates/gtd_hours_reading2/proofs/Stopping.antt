@@ -43,7 +43,7 @@ range_end step (Err offset) why e = ap (λ (h : HoursFault). h.kind) (sym (fault
 
 at_end : (size : ℕ) (s : State) (r : RulesRead) (why : HoursFault) (n : Next) → next s class.End ≡ n
     → finish size n r ≡ Err why → Stops size s [] why
-at_end size s r why (Ok step) is e = inl (range_end step (cut_step step size r) why e)
+at_end size s r why (Ok step) is e = inl (range_end step (cut_step step 0 r) why e)
 at_end size s r why (Err w) is e = inr (record {
   before = [];
   rest = [];

@@ -31,7 +31,7 @@ use Rattle.gtd_hours2.specs.declared.values.RuleLink.TheVariants as link
 use Rattle.gtd_hours2.specs.declared.values.RulePart.{RulePart}
 use Rattle.gtd_hours2.specs.declared.values.RuleWord.{RuleWord}
 use Rattle.gtd_hours2.specs.declared.values.RuleWord.TheVariants as word
-use Rattle.gtd_hours_text2.specs.Parts.{◌>>=◌, class_of, last_place, parts_of, place_of, pushed}
+use Rattle.gtd_hours_text2.specs.Parts.{◌>>=◌, class_of, last_part, last_place, parts_of, place_of, pushed}
 use Rattle.gtd_hours_reading2.specs.declared.fault.HoursFault.{HoursFault}
 use Rattle.gtd_hours_reading2.specs.declared.fault.HoursFaultKind.{HoursFaultKind}
 use Rattle.gtd_hours_reading2.specs.declared.fault.HoursFaultKind.TheVariants as fault
@@ -59,11 +59,6 @@ head_from l = record { link = l; leads = false; is_always = false; word = None; 
 
 abbrev pub place_from : ℕ → RulePlace
 place_from offset = record { from = offset; said = 0 }
-
-abbrev pub last_part : List RulePart → Option RulePart
-last_part [] = None
-last_part (x ∷ []) = Some x
-last_part (x ∷ y ∷ xs) = last_part (y ∷ xs)
 
 -- a part is where its tokens are
 abbrev pub placed : List Token → PartPlace
@@ -174,7 +169,7 @@ fault_of wrongs.Unexpected = fault.Unexpected
 fault_of wrongs.Ambiguous = fault.Ambiguous
 fault_of wrongs.Unsupported = fault.Unsupported
 
--- what is cut off at an offset
+-- what is cut off at an offset, where a rule may begin
 abbrev pub cut_step : Step → ℕ → RulesRead → Result RulesRead ℕ
 cut_step step offset r = cut_off step.first offset r >>= cut_off step.second offset
 
@@ -190,8 +185,9 @@ abbrev pub ended : Step → Result RulesRead ℕ → Run
 ended step (Ok r) = Ok (dropped_last step.way r)
 ended step (Err offset) = Err (at_fault fault.Range offset)
 
+-- No rule begins at the end.
 abbrev pub finish : ℕ → Result Step Wrong → RulesRead → Run
-finish size (Ok step) r = ended step (cut_step step size r)
+finish size (Ok step) r = ended step (cut_step step 0 r)
 finish size (Err w) r = Err (at_fault fault.Incomplete size)
 
 -- where a token leads, and what has been read then

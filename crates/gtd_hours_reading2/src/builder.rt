@@ -5,7 +5,7 @@ ghost use Rattle.gtd_hours_reading2.specs.Reading as reading;
 ghost use Rattle.gtd_hours_reading2.specs.Seen.{built};
 ghost use Rattle.gtd_hours_text2.specs.Faults.{IsPartFault};
 
-use crate::comment::{comment_of, said_at, small, word_of};
+use crate::comment::{comment_of, said_at, word_of};
 use crate::places::{LooseForm, PartPlace, RulePlace};
 use gtd_hours_grammar2::{Class, Cut, Step, Way};
 use gtd_hours_text2::{PartError, class_of, last_place, place_of, push_parts};
@@ -31,7 +31,7 @@ pub(crate) struct RuleBuilder {
     /// The tokens of its next part.
     pub item: Vec<Token>,
     /// The offset of the last sign between parts.
-    pub sign: usize,
+    pub sign: u16,
     /// What is written loosely.
     pub loose: Vec<LooseForm>,
 }
@@ -48,21 +48,13 @@ fn head_from(link: RuleLink) -> RuleHead
     }
 }
 
-fn last_part(parts: &[RulePart]) -> Option<RulePart>
-    ensures { result ≡ reading.last_part parts.now }
+fn placed(tokens: &[Token]) -> PartPlace
+    ensures { result ≡ reading.placed tokens.now }
 {
-    match parts.split_last() {
-        None => None,
-        Some((last, _)) => Some(*last),
+    PartPlace {
+        from: place_of(tokens),
+        last: last_place(tokens),
     }
-}
-
-fn placed(tokens: &[Token]) -> Result<PartPlace, AllocError>
-    ensures { IfOk result (λ place. place ≡ reading.placed tokens.now) }
-{
-    let from = small(place_of(tokens))?;
-    let last = small(last_place(tokens))?;
-    Ok(PartPlace { from, last })
 }
 
 // The same place for so many parts.
@@ -137,10 +129,9 @@ impl RuleBuilder {
         ensures fault { IfErr result (λ why. IsPartFault why (reading.cut_tokens cut count (built self.old))) }
     {
         let tokens = first_tokens(self.item.as_slice(), count);
-        let place = placed(tokens)?;
-        let before = last_part(self.parts.as_slice());
+        let place = placed(tokens);
         let size = self.parts.len();
-        push_parts(alloc, &mut self.parts, cut, before, tokens)?;
+        push_parts(alloc, &mut self.parts, cut, tokens)?;
         push_places(
             &mut self.part_places,
             place,
@@ -161,19 +152,21 @@ impl RuleBuilder {
     }
 
     // A rule is complete, and another one begins at an offset.
-    fn begin(&mut self, link: RuleLink, offset: usize) -> Result<(), AllocError>
+    fn begin(&mut self, link: RuleLink, offset: u16) -> Result<(), AllocError>
         ensures { OnOk result (built self.new ≡ reading.begin link offset (built self.old)) }
     {
-        let from = small(offset)?;
         self.rules.push(self.head, self.parts.as_slice())?;
         self.rule_places.push(self.place)?;
         self.parts.clear();
         self.head = head_from(link);
-        self.place = RulePlace { from, said: 0 };
+        self.place = RulePlace {
+            from: offset,
+            said: 0,
+        };
         Ok(())
     }
 
-    fn cut_by(&mut self, alloc: Global, cut: Cut, offset: usize) -> Result<(), PartError>
+    fn cut_by(&mut self, alloc: Global, cut: Cut, offset: u16) -> Result<(), PartError>
         ensures read { OnOk result (reading.cut_by cut offset (built self.old) ≡ Ok (built self.new)) }
         ensures fault { IfErr result (λ why. IsPartFault why (reading.cut_by cut offset (built self.old))) }
     {
@@ -206,7 +199,7 @@ impl RuleBuilder {
         }
     }
 
-    fn cut_off(&mut self, alloc: Global, cut: Option<Cut>, offset: usize) -> Result<(), PartError>
+    fn cut_off(&mut self, alloc: Global, cut: Option<Cut>, offset: u16) -> Result<(), PartError>
         ensures read { OnOk result (reading.cut_off cut offset (built self.old) ≡ Ok (built self.new)) }
         ensures fault { IfErr result (λ why. IsPartFault why (reading.cut_off cut offset (built self.old))) }
     {
@@ -221,7 +214,7 @@ impl RuleBuilder {
         &mut self,
         alloc: Global,
         step: Step,
-        offset: usize,
+        offset: u16,
     ) -> Result<(), PartError>
         ensures read { OnOk result (reading.cut_step step offset (built self.old) ≡ Ok (built self.new)) }
         ensures fault { IfErr result (λ why. IsPartFault why (reading.cut_step step offset (built self.old))) }
@@ -231,29 +224,25 @@ impl RuleBuilder {
     }
 
     // A word or a comment of the rule.
-    fn mark(&mut self, text: &[u8], token: Token) -> Result<(), AllocError>
-        ensures { OnOk result (built self.new ≡ reading.marked text.now token token.kind (built self.old)) }
+    fn mark(&mut self, text: &[u8], token: Token)
+        ensures { built self.new ≡ reading.marked text.now token token.kind (built self.old) }
     {
-        let offset = small(token.from)?;
         match token.kind {
             TokenKind::Word(word) => {
                 self.head.word = Some(word_of(word));
-                self.place.said = offset;
+                self.place.said = token.from;
             }
             _ => {
-                let comment = comment_of(text, token)?;
-                self.head.comment = Some(comment);
-                self.place.said = said_at(self.head.word, self.place.said, offset);
+                self.head.comment = Some(comment_of(text, token));
+                self.place.said = said_at(self.head.word, self.place.said, token.from);
             }
         }
-        Ok(())
     }
 
     // Something is written loosely.
-    fn loosely(&mut self, offset: usize, is_comma: bool) -> Result<(), AllocError>
+    fn loosely(&mut self, offset: u16, is_comma: bool) -> Result<(), AllocError>
         ensures { OnOk result (built self.new ≡ reading.loosely offset is_comma (built self.old)) }
     {
-        let offset = small(offset)?;
         self.loose.push(LooseForm { offset, is_comma })?;
         Ok(())
     }
@@ -275,7 +264,10 @@ impl RuleBuilder {
                 self.sign = token.from;
                 Ok(())
             }
-            Way::Mark => self.mark(text, token),
+            Way::Mark => {
+                self.mark(text, token);
+                Ok(())
+            }
             Way::Dropped => self.loosely(token.from, false),
             Way::Missing => {
                 self.add_token(token)?;

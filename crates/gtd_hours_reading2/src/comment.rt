@@ -1,21 +1,10 @@
 //! Words and comments of rules.
 
-ghost use Rattle.std.specs.Prelude.{◌≡◌, ◌-◌, drop, IfOk};
+ghost use Rattle.std.specs.Prelude.{◌≡◌, ◌-◌, drop};
 ghost use Rattle.gtd_hours_reading2.specs.Reading.{begins_plain, comment_of, said_at, word_of};
 
 use gtd_hours_tokens2::{Token, Word};
 use gtd_hours2::{CommentRange, RuleWord};
-use std::alloc::AllocError;
-
-/// The offset of a token. It always fits, since a text has at most 65,536 bytes; where it does not, memory counts as refused.
-pub(crate) fn small(offset: usize) -> Result<u16, AllocError>
-    ensures { IfOk result (λ x. x ≡ offset) }
-{
-    if offset > 65_535 {
-        return Err(AllocError);
-    }
-    Ok(offset as u16)
-}
 
 pub(crate) fn word_of(word: Word) -> RuleWord
     ensures { result ≡ word_of word }
@@ -50,21 +39,17 @@ fn is_plain_at(text: &[u8], offset: usize) -> bool
 }
 
 /// The bytes between the quotes of a comment.
-pub(crate) fn comment_of(text: &[u8], token: Token) -> Result<CommentRange, AllocError>
-    ensures { IfOk result (λ x. x ≡ comment_of text.now token) }
+pub(crate) fn comment_of(text: &[u8], token: Token) -> CommentRange
+    ensures { result ≡ comment_of text.now token }
 {
-    if token.to > 65_536 {
-        return Err(AllocError);
-    }
-    let from = small(token.from)?;
     let before = if token.is_loose { 3 } else { 1 };
-    let after = if is_plain_at(text, token.to.saturating_sub(1)) {
+    let after = if is_plain_at(text, token.to.saturating_sub(1) as usize) {
         1
     } else {
         3
     };
-    Ok(CommentRange {
-        from: u32::from(from) + before,
-        to: token.to.saturating_sub(after) as u32,
-    })
+    CommentRange {
+        from: u32::from(token.from) + before,
+        to: token.to.saturating_sub(after),
+    }
 }

@@ -69,12 +69,13 @@ fn part_error(error: PartError) -> ReadError
         PartError::NoMemory => ReadError::NoMemory,
         PartError::Range(offset) => ReadError::Fault(HoursFault {
             kind: HoursFaultKind::Range,
-            offset,
+            offset: usize::from(offset),
         }),
     }
 }
 
 // A token in a state: where it leads.
+#[inline(always)]
 fn step_over(
     builder: &mut RuleBuilder,
     alloc: Global,
@@ -91,7 +92,7 @@ fn step_over(
     match next(state, class_of(token.kind)) {
         Err(wrong) => Err(ReadError::Fault(HoursFault {
             kind: fault_of(wrong),
-            offset: token.from,
+            offset: usize::from(token.from),
         })),
         Ok(step) => {
             if let Err(error) = builder.cut_step(alloc, step, token.from) {
@@ -128,6 +129,7 @@ fn complete(builder: RuleBuilder) -> Result<TextHours, AllocError>
 }
 
 // The end of a text of so many bytes.
+#[inline(never)]
 fn finish(
     mut builder: RuleBuilder,
     alloc: Global,
@@ -145,7 +147,7 @@ fn finish(
             offset: size,
         })),
         Ok(step) => {
-            if let Err(error) = builder.cut_step(alloc, step, size) {
+            if let Err(error) = builder.cut_step(alloc, step, 0) {
                 return Err(part_error(error));
             }
             builder.drop_last(step.way)?;
@@ -156,6 +158,8 @@ fn finish(
 }
 
 // A fault at a token, or that of the tokens to come.
+#[cold]
+#[inline(never)]
 fn fault_ahead(names: DayNames, text: &[u8], cursor: Cursor, fault: HoursFault) -> HoursFault
     requires inside { IsInside text.now cursor }
     ensures { result ≡ or_tokens fault (ahead names text.now cursor) }

@@ -10,7 +10,7 @@ use gtd_hours_tokens2::{DayNames, Piece, Token, first_cursor, next_piece};
 fn counts(from: usize, class: Class, token: Token) -> bool
     ensures { result ≡ places.counts from class token }
 {
-    from <= token.from && class_of(token.kind) as u8 == class as u8
+    from <= usize::from(token.from) && class_of(token.kind) as u8 == class as u8
 }
 
 fn left_after(counts: bool, left: usize) -> usize
@@ -43,7 +43,7 @@ pub fn token_place(names: DayNames, text: &[u8], from: usize, class: Class, numb
             Ok(Some((Piece::Token(token), later))) => {
                 let is_one = counts(from, class, token);
                 if is_found(is_one, left) {
-                    return token.from;
+                    return usize::from(token.from);
                 }
                 left = left_after(is_one, left);
                 cursor = later;

@@ -72,6 +72,11 @@ abbrev pub ◌>>=◌ : {A B : Type 0} → Result A ℕ → (A → Result B ℕ) 
 abbrev pub Read : Type 0 → Type 0
 Read A = Result (A × List Token) ℕ
 
+abbrev pub last_part : List RulePart → Option RulePart
+last_part [] = None
+last_part (x ∷ []) = Some x
+last_part (x ∷ y ∷ xs) = last_part (y ∷ xs)
+
 -- what is read comes after what there was
 abbrev pub pushed : List RulePart → Result (List RulePart) ℕ → Result (List RulePart) ℕ
 pushed before (Ok xs) = Ok (before ++ xs)
@@ -555,7 +560,6 @@ always ts = do
 abbrev pub parts_of : Cut → Option RulePart → List Token → Result (List RulePart) ℕ
 parts_of cut.Years before ts = alone (years ts)
 parts_of cut.MonthDays before ts = in_order (month_days before ts)
-parts_of cut.Before before ts = in_order (month_days None ts)
 parts_of cut.Week before ts = alone (weeks ts)
 parts_of cut.Day before ts = day_item ts
 parts_of cut.Time before ts = alone (times ts)

@@ -21,7 +21,7 @@ pub enum PartError {
     /// Memory was refused.
     NoMemory,
     /// The token at this offset is out of range.
-    Range(usize),
+    Range(u16),
 }
 
 impl From<AllocError> for PartError {
@@ -125,7 +125,7 @@ fn lowest(state: BracketState) -> u16
 }
 
 // A number in brackets, and the state after it.
-fn bracket_number(state: BracketState, token: Token) -> Result<BracketState, usize>
+fn bracket_number(state: BracketState, token: Token) -> Result<BracketState, u16>
     ensures { Gives (λ x. x) result (bracket_number state token) }
 {
     match token.kind {

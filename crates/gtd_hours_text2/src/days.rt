@@ -25,7 +25,7 @@ fn weekday_range(tokens: &[Token]) -> RulePart
 }
 
 // `PH -1 day`, after its first token.
-fn public_at(tokens: &[Token]) -> Result<RulePart, usize>
+fn public_at(tokens: &[Token]) -> Result<RulePart, u16>
     ensures { Gives (λ x. x) result (public_at tokens.now) }
 {
     let (offset, _) = offset(366, tokens)?;
@@ -45,7 +45,7 @@ fn no_offset() -> DayOffset
 }
 
 /// `PH -1 day`, `SH`, `Mo`, `Mo-Fr`
-pub(crate) fn one_day(tokens: &[Token]) -> Result<RulePart, usize>
+pub(crate) fn one_day(tokens: &[Token]) -> Result<RulePart, u16>
     ensures { Gives (λ x. x) result (one_day tokens.now) }
 {
     if is(Class::PublicHoliday, tokens) {

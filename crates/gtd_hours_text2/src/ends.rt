@@ -69,7 +69,7 @@ fn longest(year: Option<u16>, month: u8) -> u16
     }
 }
 
-fn day(year: Option<u16>, month: u8, tokens: &[Token]) -> Result<(YearlyDay, &[Token]), usize>
+fn day(year: Option<u16>, month: u8, tokens: &[Token]) -> Result<(YearlyDay, &[Token]), u16>
     ensures { Gives (λ x. (x.0, x.1.now)) result (day year month tokens.now) }
 {
     let (day, rest) = small(2, 1, longest(year, month), tokens)?;
@@ -80,7 +80,7 @@ fn day_or_place(
     year: Option<u16>,
     month: u8,
     tokens: &[Token],
-) -> Result<(YearlyDay, &[Token]), usize>
+) -> Result<(YearlyDay, &[Token]), u16>
     ensures { Gives (λ x. (x.0, x.1.now)) result (day_or_place year month tokens.now) }
 {
     if is(Class::Weekday, tokens) {
@@ -94,7 +94,7 @@ pub(crate) fn end(
     year: Option<u16>,
     listed: u8,
     tokens: &[Token],
-) -> Result<(YearlyDay, &[Token]), usize>
+) -> Result<(YearlyDay, &[Token]), u16>
     ensures { Gives (λ x. (x.0, x.1.now)) result (end year listed tokens.now) }
 {
     if is(Class::Easter, tokens) {
@@ -106,7 +106,7 @@ pub(crate) fn end(
     day(year, listed, tokens)
 }
 
-fn small(most: u8, low: u16, high: u16, tokens: &[Token]) -> Result<(u8, &[Token]), usize>
+fn small(most: u8, low: u16, high: u16, tokens: &[Token]) -> Result<(u8, &[Token]), u16>
     requires { high ≤ 255 }
     ensures { Gives (λ x. (x.0, x.1.now)) result (number most low high tokens.now) }
 {
@@ -122,7 +122,7 @@ fn place_offset(
     number: u8,
     is_back: bool,
     tokens: &[Token],
-) -> Result<(YearlyDay, &[Token]), usize>
+) -> Result<(YearlyDay, &[Token]), u16>
     ensures { Gives (λ x. (x.0, x.1.now)) result (place_offset month weekday number is_back tokens.now) }
 {
     let (offset, rest) = offset(27, tokens)?;
@@ -146,14 +146,14 @@ fn place(
     weekday: u8,
     is_back: bool,
     tokens: &[Token],
-) -> Result<(YearlyDay, &[Token]), usize>
+) -> Result<(YearlyDay, &[Token]), u16>
     ensures { Gives (λ x. (x.0, x.1.now)) result (place month weekday is_back tokens.now) }
 {
     let (number, rest) = small(1, 1, 4, tokens)?;
     place_offset(month, weekday, number, is_back, after(rest))
 }
 
-fn place_at(month: u8, weekday: u8, tokens: &[Token]) -> Result<(YearlyDay, &[Token]), usize>
+fn place_at(month: u8, weekday: u8, tokens: &[Token]) -> Result<(YearlyDay, &[Token]), u16>
     ensures { Gives (λ x. (x.0, x.1.now)) result (place_at month weekday tokens.now) }
 {
     if is(Class::Dash, tokens) {
@@ -162,7 +162,7 @@ fn place_at(month: u8, weekday: u8, tokens: &[Token]) -> Result<(YearlyDay, &[To
     place(month, weekday, false, tokens)
 }
 
-fn easter(tokens: &[Token]) -> Result<(YearlyDay, &[Token]), usize>
+fn easter(tokens: &[Token]) -> Result<(YearlyDay, &[Token]), u16>
     ensures { Gives (λ x. (x.0, x.1.now)) result (easter tokens.now) }
 {
     let (offset, rest) = offset(366, after(tokens))?;

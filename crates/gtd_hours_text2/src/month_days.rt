@@ -3,7 +3,7 @@
 ghost use Rattle.std.specs.Prelude.{◌≡◌, ◌==◌, ◌&&◌, ◌||◌, ◌≤◌, ◌≤ℤ◌, IsTrue, Option, None, Ok, Err, drop, neg_ℤ, pos};
 ghost use Rattle.gtd_hours_grammar2.specs.Steps.{code};
 ghost use Rattle.gtd_hours_text2.specs.Parts.{Gives, are_months, class_of, dated, days, days_of, days_without, end_month};
-ghost use Rattle.gtd_hours_text2.specs.Parts.{fits_year, is_before, is_dated, is_range, last_from, last_place, listed_month, listed_year};
+ghost use Rattle.gtd_hours_text2.specs.Parts.{fits_year, is_before, is_dated, is_range, last_from, last_part, last_place, listed_month, listed_year};
 ghost use Rattle.gtd_hours_text2.specs.Parts.{month_days, month_days_of, months, months_of_years, or_zero, range, range_from};
 ghost use Rattle.gtd_hours_text2.specs.Parts.{year_after};
 
@@ -25,7 +25,7 @@ fn end_month(day: YearlyDay) -> u8
 }
 
 // A range from a day without a year, after its dash.
-fn range(first: YearlyDay, tokens: &[Token]) -> Result<(Option<u16>, RulePart), usize>
+fn range(first: YearlyDay, tokens: &[Token]) -> Result<(Option<u16>, RulePart), u16>
     ensures { Gives (λ x. (x.0, x.1)) result (range first tokens.now) }
 {
     if is(Class::Year, tokens) {
@@ -36,7 +36,7 @@ fn range(first: YearlyDay, tokens: &[Token]) -> Result<(Option<u16>, RulePart), 
 }
 
 // `Dec 24`, `Mar Su[-1]-Oct 3`, `easter`, and `26-31` after a date of the month.
-fn days_without(listed: u8, tokens: &[Token]) -> Result<(Option<u16>, RulePart), usize>
+fn days_without(listed: u8, tokens: &[Token]) -> Result<(Option<u16>, RulePart), u16>
     ensures { Gives (λ x. (x.0, x.1)) result (days_without listed tokens.now) }
 {
     let (first, rest) = end(None, listed, tokens)?;
@@ -94,8 +94,8 @@ fn dated(
     first: YearlyDay,
     last_year: u16,
     last: YearlyDay,
-    offset: usize,
-) -> Result<(Option<u16>, RulePart), usize>
+    offset: u16,
+) -> Result<(Option<u16>, RulePart), u16>
     ensures { Gives (λ x. (x.0, x.1)) result (dated year first last_year last offset) }
 {
     if fits_year(last_year, last) && is_dated(year, first, last_year, last) {
@@ -113,7 +113,7 @@ fn dated(
 }
 
 /// The offset of the last token, or 0.
-pub fn last_place(tokens: &[Token]) -> usize
+pub fn last_place(tokens: &[Token]) -> u16
     ensures { result ≡ last_place tokens.now }
 {
     let mut rest = tokens;
@@ -130,8 +130,8 @@ fn range_from(
     first_year: u16,
     first: YearlyDay,
     tokens: &[Token],
-    offset: usize,
-) -> Result<(Option<u16>, RulePart), usize>
+    offset: u16,
+) -> Result<(Option<u16>, RulePart), u16>
     ensures { Gives (λ x. (x.0, x.1)) result (range_from first_year first tokens.now offset) }
 {
     if is(Class::Year, tokens) {
@@ -150,7 +150,7 @@ fn range_from(
 }
 
 // `2026 Dec 24`, `2026 easter-2026 Nov 1`
-fn days_of(year: u16, listed: u8, tokens: &[Token]) -> Result<(Option<u16>, RulePart), usize>
+fn days_of(year: u16, listed: u8, tokens: &[Token]) -> Result<(Option<u16>, RulePart), u16>
     ensures { Gives (λ x. (x.0, x.1)) result (days_of year listed tokens.now) }
 {
     let (first, rest) = end(Some(year), listed, tokens)?;
@@ -168,7 +168,7 @@ fn days_of(year: u16, listed: u8, tokens: &[Token]) -> Result<(Option<u16>, Rule
     ))
 }
 
-fn days(year: Option<u16>, listed: u8, tokens: &[Token]) -> Result<(Option<u16>, RulePart), usize>
+fn days(year: Option<u16>, listed: u8, tokens: &[Token]) -> Result<(Option<u16>, RulePart), u16>
     ensures { Gives (λ x. (x.0, x.1)) result (days year listed tokens.now) }
 {
     match year {
@@ -182,7 +182,7 @@ fn months_of_years(
     first_year: u16,
     first: u8,
     tokens: &[Token],
-) -> Result<(Option<u16>, RulePart), usize>
+) -> Result<(Option<u16>, RulePart), u16>
     ensures { Gives (λ x. (x.0, x.1)) result (months_of_years first_year first tokens.now) }
 {
     let (last_year, rest) = year(first_year, tokens)?;
@@ -224,7 +224,7 @@ fn are_months(tokens: &[Token]) -> bool
 }
 
 // `Apr`, `Apr-Sep`, after the first month; a year is a selector of its own.
-fn months(year: Option<u16>, first: u8, tokens: &[Token]) -> Result<(Option<u16>, RulePart), usize>
+fn months(year: Option<u16>, first: u8, tokens: &[Token]) -> Result<(Option<u16>, RulePart), u16>
     ensures { Gives (λ x. (x.0, x.1)) result (months year first tokens.now) }
 {
     match tokens {
@@ -248,7 +248,7 @@ fn month_days_of(
     year: Option<u16>,
     listed: u8,
     tokens: &[Token],
-) -> Result<(Option<u16>, RulePart), usize>
+) -> Result<(Option<u16>, RulePart), u16>
     ensures { Gives (λ x. (x.0, x.1)) result (month_days_of year listed tokens.now) }
 {
     if is(Class::Month, tokens) && are_months(after(tokens)) {
@@ -276,12 +276,21 @@ fn listed_year(before: Option<RulePart>) -> Option<u16>
     }
 }
 
-/// Months and days, after the part before them. The year of months is a selector of its own.
+fn last_part(parts: &[RulePart]) -> Option<RulePart>
+    ensures { result ≡ last_part parts.now }
+{
+    match parts.split_last() {
+        None => None,
+        Some((last, _)) => Some(*last),
+    }
+}
+
+/// Months and days, after the parts before them. The year of months is a selector of its own.
 pub(crate) fn month_days(
-    before: Option<RulePart>,
+    parts: &[RulePart],
     tokens: &[Token],
-) -> Result<(Option<u16>, RulePart), usize>
-    ensures { Gives (λ x. (x.0, x.1)) result (month_days before tokens.now) }
+) -> Result<(Option<u16>, RulePart), u16>
+    ensures { Gives (λ x. (x.0, x.1)) result (month_days (last_part parts.now) tokens.now) }
 {
     if is(Class::Year, tokens) {
         let (year, rest) = year(1800, tokens)?;
@@ -290,5 +299,6 @@ pub(crate) fn month_days(
     if is(Class::Month, tokens) || is(Class::Easter, tokens) {
         return month_days_of(None, 0, tokens);
     }
+    let before = last_part(parts);
     month_days_of(listed_year(before), listed_month(before), tokens)
 }

@@ -2,7 +2,7 @@
 
 ghost use Rattle.std.specs.Prelude.{◌≡◌, ◌++◌, [], ◌∷◌, IfErr, OnOk, Ok, drop};
 ghost use Rattle.gtd_hours_text2.specs.Faults.{IsPartFault};
-ghost use Rattle.gtd_hours_text2.specs.Parts.{Gives, alone, always, day_item, in_order, month_days, parts_of, pushed, with_year};
+ghost use Rattle.gtd_hours_text2.specs.Parts.{Gives, alone, always, day_item, in_order, last_part, month_days, parts_of, pushed, with_year};
 
 use crate::brackets::{PartError, push_nth_weekdays};
 use crate::days::one_day;
@@ -14,7 +14,7 @@ use gtd_hours_tokens2::Token;
 use gtd_hours2::RulePart;
 use std::alloc::{AllocError, Global};
 
-fn push_alone(out: &mut Vec<RulePart>, part: Result<RulePart, usize>) -> Result<(), PartError>
+fn push_alone(out: &mut Vec<RulePart>, part: Result<RulePart, u16>) -> Result<(), PartError>
     ensures read { OnOk result (pushed out.old.items (alone part) ≡ Ok out.new.items) }
     ensures fault { IfErr result (λ why. IsPartFault why (alone part)) }
 {
@@ -46,15 +46,12 @@ fn push_with_year(
     Ok(())
 }
 
-fn push_month_days(
-    out: &mut Vec<RulePart>,
-    before: Option<RulePart>,
-    tokens: &[Token],
-) -> Result<(), PartError>
-    ensures read { OnOk result (pushed out.old.items (in_order (month_days before tokens.now)) ≡ Ok out.new.items) }
-    ensures fault { IfErr result (λ why. IsPartFault why (in_order (month_days before tokens.now))) }
+fn push_month_days(out: &mut Vec<RulePart>, tokens: &[Token]) -> Result<(), PartError>
+    ensures read { OnOk result
+        (pushed out.old.items (in_order (month_days (last_part out.old.items) tokens.now)) ≡ Ok out.new.items) }
+    ensures fault { IfErr result (λ why. IsPartFault why (in_order (month_days (last_part out.old.items) tokens.now))) }
 {
-    match month_days(before, tokens) {
+    match month_days(out.as_slice(), tokens) {
         Ok((year, part)) => {
             push_with_year(out, year, part)?;
             Ok(())
@@ -85,22 +82,20 @@ fn check_always(tokens: &[Token]) -> Result<(), PartError>
     }
 }
 
-/// Adds the parts of tokens that are cut off, after the part before them.
+/// Adds the parts of tokens that are cut off, after the parts before them.
 #[tactic(auto, using(crate::proofs::Answering::gives_same))]
 pub fn push_parts(
     alloc: Global,
     out: &mut Vec<RulePart>,
     cut: Cut,
-    before: Option<RulePart>,
     tokens: &[Token],
 ) -> Result<(), PartError>
-    ensures read { OnOk result (pushed out.old.items (parts_of cut before tokens.now) ≡ Ok out.new.items) }
-    ensures fault { IfErr result (λ why. IsPartFault why (parts_of cut before tokens.now)) }
+    ensures read { OnOk result (pushed out.old.items (parts_of cut (last_part out.old.items) tokens.now) ≡ Ok out.new.items) }
+    ensures fault { IfErr result (λ why. IsPartFault why (parts_of cut (last_part out.old.items) tokens.now)) }
 {
     match cut {
         Cut::Years => push_alone(out, years(tokens)),
-        Cut::MonthDays => push_month_days(out, before, tokens),
-        Cut::Before => push_month_days(out, None, tokens),
+        Cut::MonthDays => push_month_days(out, tokens),
         Cut::Week => push_alone(out, weeks(tokens)),
         Cut::Day => push_day_item(alloc, out, tokens),
         Cut::Time => push_alone(out, times(tokens)),

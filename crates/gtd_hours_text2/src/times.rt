@@ -20,7 +20,7 @@ pub(crate) fn first_kind(tokens: &[Token]) -> TokenKind
     }
 }
 
-fn clock(most: u16, token: Token) -> Result<u16, usize>
+fn clock(most: u16, token: Token) -> Result<u16, u16>
     ensures { Gives (λ x. x) result (clock most token token.kind) }
 {
     match token.kind {
@@ -36,7 +36,7 @@ fn clock(most: u16, token: Token) -> Result<u16, usize>
     }
 }
 
-fn clock_at(most: u16, tokens: &[Token]) -> Result<(u16, &[Token]), usize>
+fn clock_at(most: u16, tokens: &[Token]) -> Result<(u16, &[Token]), u16>
     ensures { Gives (λ x. (x.0, x.1.now)) result (clock_at most tokens.now) }
 {
     match tokens {
@@ -72,7 +72,7 @@ fn event_at(kind: TokenKind, minutes: u16, is_before: bool) -> TimeOfDay
     }
 }
 
-fn shifted_at(tokens: &[Token]) -> Result<(TimeOfDay, &[Token]), usize>
+fn shifted_at(tokens: &[Token]) -> Result<(TimeOfDay, &[Token]), u16>
     ensures { Gives (λ x. (x.0, x.1.now)) result (shifted_at tokens.now) }
 {
     let sign = after(tokens);
@@ -81,14 +81,14 @@ fn shifted_at(tokens: &[Token]) -> Result<(TimeOfDay, &[Token]), usize>
     Ok((moment, after(rest)))
 }
 
-fn minute_at(most: u16, tokens: &[Token]) -> Result<(TimeOfDay, &[Token]), usize>
+fn minute_at(most: u16, tokens: &[Token]) -> Result<(TimeOfDay, &[Token]), u16>
     ensures { Gives (λ x. (x.0, x.1.now)) result (minute_at most tokens.now) }
 {
     let (minutes, rest) = clock_at(most, tokens)?;
     Ok((TimeOfDay::Clock(minutes), rest))
 }
 
-fn moment_at(most: u16, tokens: &[Token]) -> Result<(TimeOfDay, &[Token]), usize>
+fn moment_at(most: u16, tokens: &[Token]) -> Result<(TimeOfDay, &[Token]), u16>
     ensures { Gives (λ x. (x.0, x.1.now)) result (moment_at most tokens.now) }
 {
     if is(Class::Paren, tokens) {
@@ -112,7 +112,7 @@ fn lasts_long(first: TimeOfDay, last: TimeOfDay) -> bool
     }
 }
 
-fn every(tokens: &[Token]) -> Result<(u16, &[Token]), usize>
+fn every(tokens: &[Token]) -> Result<(u16, &[Token]), u16>
     ensures { Gives (λ x. (x.0, x.1.now)) result (every tokens.now) }
 {
     if is(Class::Time, tokens) {
@@ -122,7 +122,7 @@ fn every(tokens: &[Token]) -> Result<(u16, &[Token]), usize>
     }
 }
 
-fn every_tail(tokens: &[Token]) -> Result<TimeTail, usize>
+fn every_tail(tokens: &[Token]) -> Result<TimeTail, u16>
     ensures { Gives (λ x. x) result (every_tail tokens.now) }
 {
     let (minutes, _) = every(tokens)?;
@@ -132,7 +132,7 @@ fn every_tail(tokens: &[Token]) -> Result<TimeTail, usize>
     Ok(TimeTail::Every(minutes))
 }
 
-fn tail_at(tokens: &[Token]) -> Result<TimeTail, usize>
+fn tail_at(tokens: &[Token]) -> Result<TimeTail, u16>
     ensures { Gives (λ x. x) result (tail_at tokens.now) }
 {
     if is(Class::Plus, tokens) {
@@ -147,9 +147,9 @@ fn tail_at(tokens: &[Token]) -> Result<TimeTail, usize>
 fn range_tail(
     first: TimeOfDay,
     last: TimeOfDay,
-    place: usize,
+    place: u16,
     tokens: &[Token],
-) -> Result<RulePart, usize>
+) -> Result<RulePart, u16>
     ensures { Gives (λ x. x) result (range_tail first last place tokens.now) }
 {
     if lasts_long(first, last) {
@@ -163,7 +163,7 @@ fn range_tail(
     })
 }
 
-fn time_range(first: TimeOfDay, tokens: &[Token]) -> Result<RulePart, usize>
+fn time_range(first: TimeOfDay, tokens: &[Token]) -> Result<RulePart, u16>
     ensures { Gives (λ x. x) result (time_range first tokens.now) }
 {
     let (last, rest) = moment_at(2880, tokens)?;
@@ -181,7 +181,7 @@ fn open_or_point(tokens: &[Token]) -> TimeTail
 }
 
 /// `08:00-17:00`, `17:00+`, `(sunrise+01:00)-12:00`, `10:00-16:00/30`, `12:00`
-pub(crate) fn times(tokens: &[Token]) -> Result<RulePart, usize>
+pub(crate) fn times(tokens: &[Token]) -> Result<RulePart, u16>
     ensures { Gives (λ x. x) result (times tokens.now) }
 {
     let (first, rest) = moment_at(1439, tokens)?;
@@ -203,7 +203,7 @@ fn has_offset(tokens: &[Token]) -> bool
     is(Class::Day, after(after(tokens)))
 }
 
-fn days_at(is_before: bool, most: u16, tokens: &[Token]) -> Result<(DayOffset, &[Token]), usize>
+fn days_at(is_before: bool, most: u16, tokens: &[Token]) -> Result<(DayOffset, &[Token]), u16>
     ensures { Gives (λ x. (x.0, x.1.now)) result (days_at is_before most tokens.now) }
 {
     let digits = if most < 100 { 2 } else { 3 };
@@ -211,7 +211,7 @@ fn days_at(is_before: bool, most: u16, tokens: &[Token]) -> Result<(DayOffset, &
     Ok((DayOffset { days, is_before }, after(rest)))
 }
 
-pub(crate) fn offset(most: u16, tokens: &[Token]) -> Result<(DayOffset, &[Token]), usize>
+pub(crate) fn offset(most: u16, tokens: &[Token]) -> Result<(DayOffset, &[Token]), u16>
     ensures { Gives (λ x. (x.0, x.1.now)) result (offset most tokens.now) }
 {
     if has_offset(tokens) {

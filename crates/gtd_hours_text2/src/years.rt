@@ -78,7 +78,7 @@ pub(crate) fn after(tokens: &[Token]) -> &[Token]
 }
 
 /// The offset of the first token, or 0.
-pub fn place_of(tokens: &[Token]) -> usize
+pub fn place_of(tokens: &[Token]) -> u16
     ensures { result ≡ place_of tokens.now }
 {
     match tokens {
@@ -92,7 +92,7 @@ pub(crate) fn number(
     low: u16,
     high: u16,
     tokens: &[Token],
-) -> Result<(u16, &[Token]), usize>
+) -> Result<(u16, &[Token]), u16>
     ensures { Gives (λ x. (x.0, x.1.now)) result (number most low high tokens.now) }
 {
     match tokens {
@@ -110,7 +110,7 @@ pub(crate) fn number(
     }
 }
 
-pub(crate) fn year(low: u16, tokens: &[Token]) -> Result<(u16, &[Token]), usize>
+pub(crate) fn year(low: u16, tokens: &[Token]) -> Result<(u16, &[Token]), u16>
     ensures { Gives (λ x. (x.0, x.1.now)) result (year low tokens.now) }
 {
     if is(Class::Year, tokens) {
@@ -120,7 +120,7 @@ pub(crate) fn year(low: u16, tokens: &[Token]) -> Result<(u16, &[Token]), usize>
     }
 }
 
-fn step(tokens: &[Token]) -> Result<(u16, &[Token]), usize>
+fn step(tokens: &[Token]) -> Result<(u16, &[Token]), u16>
     ensures { Gives (λ x. (x.0, x.1.now)) result (step tokens.now) }
 {
     number(4, 1, 9999, tokens)
@@ -172,7 +172,7 @@ fn endless(first: u16, step: u16) -> RulePart
     }
 }
 
-fn years_on(first: u16, tokens: &[Token]) -> Result<RulePart, usize>
+fn years_on(first: u16, tokens: &[Token]) -> Result<RulePart, u16>
     ensures { Gives (λ x. x) result (years_on first tokens.now) }
 {
     if is(Class::Plus, tokens) {
@@ -192,7 +192,7 @@ fn years_on(first: u16, tokens: &[Token]) -> Result<RulePart, usize>
     })
 }
 
-fn years_to(first: u16, tokens: &[Token]) -> Result<RulePart, usize>
+fn years_to(first: u16, tokens: &[Token]) -> Result<RulePart, u16>
     ensures { Gives (λ x. x) result (years_to first tokens.now) }
 {
     let (last, rest) = year(first, tokens)?;
@@ -204,14 +204,14 @@ fn years_to(first: u16, tokens: &[Token]) -> Result<RulePart, usize>
 }
 
 /// `2024`, `2024-2030/2`, `2024+`
-pub(crate) fn years(tokens: &[Token]) -> Result<RulePart, usize>
+pub(crate) fn years(tokens: &[Token]) -> Result<RulePart, u16>
     ensures { Gives (λ x. x) result (years tokens.now) }
 {
     let (first, rest) = year(1800, tokens)?;
     years_on(first, rest)
 }
 
-fn week_step(first: u8, last: u8, place: usize, tokens: &[Token]) -> Result<RulePart, usize>
+fn week_step(first: u8, last: u8, place: u16, tokens: &[Token]) -> Result<RulePart, u16>
     ensures { Gives (λ x. x) result (week_step first last place tokens.now) }
 {
     if !is(Class::Slash, tokens) {
@@ -228,7 +228,7 @@ fn week_step(first: u8, last: u8, place: usize, tokens: &[Token]) -> Result<Rule
     Ok(RulePart::Weeks { first, last, step })
 }
 
-fn week(tokens: &[Token]) -> Result<(u8, &[Token]), usize>
+fn week(tokens: &[Token]) -> Result<(u8, &[Token]), u16>
     ensures read { Gives (λ x. (x.0, x.1.now)) result (number 2 1 53 tokens.now) }
     ensures small { IfOk result (λ x. x.0 ≤ 53) }
 {
@@ -239,7 +239,7 @@ fn week(tokens: &[Token]) -> Result<(u8, &[Token]), usize>
 }
 
 /// `10`, `10-20/2`, `46-12`
-pub(crate) fn weeks(tokens: &[Token]) -> Result<RulePart, usize>
+pub(crate) fn weeks(tokens: &[Token]) -> Result<RulePart, u16>
     ensures { Gives (λ x. x) result (weeks tokens.now) }
 {
     let (first, rest) = week(tokens)?;

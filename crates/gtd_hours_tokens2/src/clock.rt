@@ -7,9 +7,9 @@ ghost use Rattle.gtd_hours_tokens2.specs.Clock as clock;
 ghost use Rattle.gtd_hours_tokens2.specs.declared.token.TokenKind.TheVariants as kinds;
 
 use crate::found::Found;
-use crate::runs::{after_spaces, space_count};
+use crate::runs::{after_spaces, space_count, split_digits};
 use crate::token::{TokenFaultKind, TokenKind};
-use gtd_scan::{after_digits, digits_at_front, digits_value, letters_at_front, two_digits_value};
+use gtd_scan::{digits_value, letters_at_front, two_digits_value};
 
 /// The minute after an hour.
 #[derive(Clone, Copy)]
@@ -258,20 +258,21 @@ fn minute_front(bytes: &[u8]) -> Option<Minute>
     match bytes {
         [] => None,
         [sign, rest @ ..] => match *sign {
-            b':' => minute_of(b':', digits_at_front(rest), after_digits(rest)),
-            b'.' => minute_of(b'.', digits_at_front(rest), after_digits(rest)),
-            b'H' => hour_letter(digits_at_front(rest), after_digits(rest)),
-            b'h' => hour_letter(digits_at_front(rest), after_digits(rest)),
+            b':' => minute_of(b':', rest),
+            b'.' => minute_of(b'.', rest),
+            b'H' => hour_letter(rest),
+            b'h' => hour_letter(rest),
             _ => None,
         },
     }
 }
 
 // `:30` or `.30`, after its sign.
-fn minute_of(sign: u8, minute: &[u8], rest: &[u8]) -> Option<Minute>
-    requires { list_all is_ascii_digit minute.now ≡ true }
-    ensures { result ≡ clock.minute_of sign minute.now rest.now }
+fn minute_of(sign: u8, bytes: &[u8]) -> Option<Minute>
+    ensures minute { result ≡ clock.minute_of sign (clock.digits_of bytes.now) (clock.after_digits bytes.now) }
+    ensures within { IfSome result (λ x. x.length ≤ length bytes.now + 1) }
 {
+    let (minute, rest) = split_digits(bytes);
     if minute.len() == 2 && !begins_part(sign, rest) {
         Some(Minute {
             value: two_digits_value(minute),
@@ -284,10 +285,11 @@ fn minute_of(sign: u8, minute: &[u8], rest: &[u8]) -> Option<Minute>
 }
 
 // `h` or `h30`, after the letter.
-fn hour_letter(minute: &[u8], rest: &[u8]) -> Option<Minute>
-    requires { list_all is_ascii_digit minute.now ≡ true }
-    ensures { result ≡ clock.hour_letter minute.now rest.now }
+fn hour_letter(bytes: &[u8]) -> Option<Minute>
+    ensures minute { result ≡ clock.hour_letter (clock.digits_of bytes.now) (clock.after_digits bytes.now) }
+    ensures within { IfSome result (λ x. x.length ≤ length bytes.now + 1) }
 {
+    let (minute, rest) = split_digits(bytes);
     if begins_letter(rest) {
         return None;
     }

@@ -50,6 +50,7 @@ pub fn first_cursor(text: &[u8]) -> Result<Cursor, TokenFault>
 /// next_piece(DayNames::Unsaid, b"8:00", cursor) == Ok(Some((Piece::Token(Token { kind: TokenKind::Time { hour: 8, minute: 0 },
 ///     from: 0, to: 4, is_loose: true }), later)))
 /// ```
+#[inline(always)]
 pub fn next_piece(
     names: DayNames,
     text: &[u8],
@@ -131,6 +132,7 @@ fn advanced(cursor: Cursor, paired: Paired, place: usize) -> Cursor
 }
 
 // What becomes of a token that ends at a place.
+#[inline(never)]
 fn paired_at(names: DayNames, text: &[u8], before: Before, token: Token, to: usize) -> Paired
     requires inside { to ≤ length text.now }
     requires room { length text.now ≤ 65_536 }
@@ -143,6 +145,7 @@ fn paired_at(names: DayNames, text: &[u8], before: Before, token: Token, to: usi
 }
 
 // The first token from a place on, and the place after it.
+#[inline(never)]
 fn first_token(names: DayNames, text: &[u8], from: usize) -> Option<(Token, usize)>
     requires inside { from ≤ length text.now }
     requires room { length text.now ≤ 65_536 }

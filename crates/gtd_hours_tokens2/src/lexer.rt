@@ -8,10 +8,10 @@ ghost use Rattle.gtd_hours_tokens2.specs.declared.token.Piece.TheVariants as pie
 
 use crate::clock::digits_front;
 use crate::found::Found;
+use crate::runs::{split_digits, split_letters};
 use crate::signs::{loose_space, sign_front};
 use crate::token::{DayNames, Piece, Token, TokenFault, TokenFaultKind, TokenKind};
 use crate::words::{Name, is_capital, is_lower, is_upper, name_of};
-use gtd_scan::{after_digits, after_letters, digits_at_front, letters_at_front};
 
 /// What bytes go on with.
 #[derive(Clone, Copy)]
@@ -85,6 +85,7 @@ fn german(names: DayNames, weekday: u8, used: usize, rest: &[u8]) -> Result<Foun
     }
 }
 
+#[inline(always)]
 fn word_front(
     names: DayNames,
     letters: &[u8],
@@ -108,6 +109,7 @@ fn word_front(
 }
 
 // The token that begins with this byte and goes on with these.
+#[inline(always)]
 fn front(names: DayNames, bytes: &[u8]) -> Result<Found, TokenFaultKind>
     ensures front { result ≡ tokens.front names bytes.now }
     ensures some { IfOk result (λ x. 1 ≤ x.length) }
@@ -117,10 +119,11 @@ fn front(names: DayNames, bytes: &[u8]) -> Result<Found, TokenFaultKind>
         [] => Err(TokenFaultKind::BadToken),
         [byte, rest @ ..] => {
             if byte.is_ascii_alphabetic() {
-                let letters = letters_at_front(bytes);
-                word_front(names, letters, after_letters(bytes), name_of(letters))
+                let (letters, later) = split_letters(bytes);
+                word_front(names, letters, later, name_of(letters))
             } else if byte.is_ascii_digit() {
-                digits_front(digits_at_front(bytes), after_digits(bytes))
+                let (digits, later) = split_digits(bytes);
+                digits_front(digits, later)
             } else {
                 sign_front(*byte, rest)
             }
@@ -129,6 +132,7 @@ fn front(names: DayNames, bytes: &[u8]) -> Result<Found, TokenFaultKind>
 }
 
 // What bytes go on with, of which there are some.
+#[inline(always)]
 fn raw_at(names: DayNames, bytes: &[u8]) -> Raw
     requires some { 1 ≤ length bytes.now }
     ensures raw { result ≡ tokens.raw_front names bytes.now }
@@ -154,6 +158,7 @@ fn raw_at(names: DayNames, bytes: &[u8]) -> Raw
 }
 
 /// The next token or loose space from a place of a text on, and the place after it.
+#[inline(always)]
 pub(crate) fn next_raw(
     names: DayNames,
     text: &[u8],
@@ -186,15 +191,16 @@ fn bytes_from(text: &[u8], place: usize) -> &[u8]
 }
 
 fn placed(place: usize, found: Found) -> (Piece, usize)
-    requires room { place + found.length < 2 ^ 63 }
+    requires some { 1 ≤ found.length }
+    requires room { place + found.length ≤ 65_536 }
     ensures piece { result.0 ≡ pieces.Token (tokens.placed place found) }
     ensures to { result.1 ≡ place + found.length }
 {
     let to = place + found.length;
     let token = Token {
         kind: found.kind,
-        from: place,
-        to,
+        from: place as u16,
+        to: to as u32,
         is_loose: found.is_loose,
     };
     (Piece::Token(token), to)

@@ -121,7 +121,7 @@ fn first_of(are_times: bool, token: Token, value: u16) -> Paired
             token,
             before: Before::Years,
             is_time: false,
-            year: Some(token.from),
+            year: Some(usize::from(token.from)),
         }
     }
 }

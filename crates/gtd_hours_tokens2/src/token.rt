@@ -91,9 +91,9 @@ pub struct Token {
     /// What it means.
     pub kind: TokenKind,
     /// The number of bytes before it.
-    pub from: usize,
+    pub from: u16,
     /// The number of bytes up to its end.
-    pub to: usize,
+    pub to: u32,
     /// Whether its strict form is another one.
     pub is_loose: bool,
 }

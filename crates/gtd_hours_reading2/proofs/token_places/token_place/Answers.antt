@@ -33,10 +33,10 @@ returns-then-is_found c =
     (ahead c.args.names c.args.text.now c.in-Ok-Some-Token-default.later) = search rules in
     let hits : (counts c.args.from c.args.class c.in-Ok-Some-Token-default.token && (c.piece.left == 0)) ≡ true =
     rw (sym c.counts-is_one.ensures) (sym c.is_found.ensures ∙ c.if-is_found.true) in
-    c.piece.invariant.same c.in-Ok-Some-Token-default.token.from
+    rw c.from.ensures (c.piece.invariant.same c.in-Ok-Some-Token-default.token.from
     (token_found (ahead c.args.names c.args.text.now c.piece.cursor)
     (ahead c.args.names c.args.text.now c.in-Ok-Some-Token-default.later) c.in-Ok-Some-Token-default.token c.args.from
-    c.args.class c.piece.left e hits)
+    c.args.class c.piece.left e hits))
 
 pub piece-preserved : goal.piece-preserved
 piece-preserved c =
