@@ -1,0 +1,7 @@
+-- Lemmas on the ends of ranges.
+pub mod EndFacts
+pub mod OrderFacts
+pub mod RangeFacts
+pub mod PartFacts
+pub mod HolidayFacts
+pub mod GatherFacts
