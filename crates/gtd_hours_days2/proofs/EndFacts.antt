@@ -2,6 +2,7 @@
 use Rattle.std.proofs.Common.{◌≡◌, ◌↔◌, sym, subst, refl, inl, inr, ◌⊎◌, arith, ℕ, ◌+◌, ◌*◌, ◌≤◌, ◌<◌, Bool, true, false, ◌||◌}
 use Rattle.std.proofs.Common.{ℤ, pos, ◌+ℤ◌, ◌-ℤ◌, ◌≤ℤ◌, ◌<ℤ◌}
 use Rattle.gtd_calendar.specs.facts.Signed.{signed_arith}
+use Rattle.gtd_calendar.specs.Calendar.{IsCalendarDay}
 use Rattle.gtd_calendar.specs.declared.day.DayFields.{DayFields}
 use Rattle.gtd_hours.specs.ComputedPlaces.{IsInOrder, end_day, place_day}
 use Rattle.gtd_hours.specs.Moving.{AreInOrder as ArePlainInOrder, IsEndIn, IsInMoving, IsMoving, day_from, is_place, is_yearly, last_year}
@@ -79,3 +80,65 @@ one-order true false first last h k =
     absurd (apart (end_day first (pos 1)) (end_day last (pos 1)) (pos 0) (k (pos 1)).0 (h (pos 0)).1)
 one-order false true first last h k =
     absurd (apart (end_day first (pos 1)) (end_day last (pos 1)) (pos 0) (h (pos 1)).0 (k (pos 0)).1)
+
+-- ---- a range that moves, by its ends
+
+abbrev IsMovingBetween : End → End → ℤ → Type 0
+IsMovingBetween a b n = (over : Bool) × AreOrdered over a b
+    × ((y : ℤ) × (end_day a y ≤ℤ n) × (n ≤ℤ end_day b (last_year over y)))
+
+moving_between : (x : Moving) (n : ℤ) → IsInMoving x.is_over x.first x.last n ↔ IsMovingBetween x.first x.last n
+moving_between x n =
+    let order = order-to x.is_over x.first x.last x.in_order.0 x.in_order.1 x.in_order.3 in (
+      (λ h. (x.is_over, order, (range-holds x n).0 h)),
+      (λ h.
+          let same = one-order h.0 x.is_over x.first x.last h.1 order in
+          (range-holds x n).1
+          (h.2.0, h.2.1, subst (λ (over : Bool). n ≤ℤ end_day x.last (last_year over h.2.0)) same h.2.2)),
+    )
+
+between_places : (a b : End) (n : ℤ) (f : DayFields) → (is_place a || is_place b) ≡ true
+    → IsMovingBetween a b n ↔ IsBetweenEnds a b n f
+between_places (end.Date x) (end.Date y) n f e = absurd cc
+between_places (end.Date x) (end.Place y) n f e = ((λ h. h), (λ h. h))
+between_places (end.Place x) (end.Date y) n f e = ((λ h. h), (λ h. h))
+between_places (end.Place x) (end.Place y) n f e = ((λ h. h), (λ h. h))
+
+pub moving-holds : (x : Moving) (a b : End) (n : ℤ) (f : DayFields) → x.first ≡ a → x.last ≡ b
+    → (is_place a || is_place b) ≡ true → HoldsOn (selector.Moving x) n f ↔ IsBetweenEnds a b n f
+moving-holds x a b n f p q place =
+    let own = moving_between x n in
+    let same = between_places a b n f place in (
+      (λ h. same.0 (subst (λ (e : End). IsMovingBetween a e n) q (subst (λ (e : End). IsMovingBetween e x.last n) p (own.0 h)))),
+      (λ h. own.1
+          (subst (λ (e : End). IsMovingBetween e x.last n) (sym p)
+          (subst (λ (e : End). IsMovingBetween a e n) (sym q) (same.1 h)))),
+    )
+
+ends_places : (a b : End) → (is_place a || is_place b) ≡ true
+    → ((is_yearly a ≡ true) × (is_yearly b ≡ true) × ((over : Bool) × AreOrdered over a b)) ↔ AreEnds a b
+ends_places (end.Date x) (end.Date y) e = absurd cc
+ends_places (end.Date x) (end.Place y) e = ((λ h. h), (λ h. h))
+ends_places (end.Place x) (end.Date y) e = ((λ h. h), (λ h. h))
+ends_places (end.Place x) (end.Place y) e = ((λ h. h), (λ h. h))
+
+pub moving-ends : (a b : End) → (is_place a || is_place b) ≡ true → ((over : Bool) × IsMoving over a b) ↔ AreEnds a b
+moving-ends a b place =
+    let same = ends_places a b place in (
+      (λ h. same.0 (h.1.0, h.1.1, (h.0, order-to h.0 a b h.1.0 h.1.1 h.1.3))),
+      (λ h.
+          let parts = same.1 h in
+          (parts.2.0, (parts.0, parts.1, place, order-from parts.2.0 a b parts.2.1))),
+    )
+
+-- ---- days of years
+
+pub place-date : (x : MonthPlace) (y n : ℤ) → IsEndIn (end.Place x) y n → n ≡ end_day (end.Place x) y
+place-date x y n is = end-only (end.Place x) y n is
+
+pub place-exists : (x : MonthPlace) (y : ℤ)
+    → ((n : ℤ) × IsEndIn (end.Place x) y n × IsCalendarDay n) ↔ IsCalendarDay (end_day (end.Place x) y)
+place-exists x y = (
+  (λ h. subst IsCalendarDay (end-only (end.Place x) y h.0 h.1) h.2),
+  (λ h. (end_day (end.Place x) y, end-is (end.Place x) y refl, h)),
+)

@@ -1,7 +1,9 @@
 -- Selectors that are gathered one after another.
 use Rattle.std.proofs.Common.{◌≡◌, ◌↔◌, ◌∙◌, ◌⊎◌, inl, inr, sym, ap, subst, refl, ℕ, ◌==◌, Bool, true, false, if◌then◌else◌}
 use Rattle.std.proofs.Common.{List, [], ◌∷◌, ◌++◌, Option, Some, None, ℤ}
-use Rattle.std.proofs.lemmas.Bool.{eqb-true}
+use Rattle.std.proofs.Common.{arith, eq-eqb, length, Result, Ok, Err}
+use Rattle.std.specs.Prelude.{IfOk}
+use Rattle.std.proofs.lemmas.Bool.{eqb-true, true≢false}
 use Rattle.gtd_calendar.specs.Calendar.{AreFieldsOf}
 use Rattle.gtd_calendar.specs.declared.day.DayFields.{DayFields}
 use Rattle.gtd_hours.specs.Opening.{HoldsOn, SomeHolds}
@@ -167,10 +169,33 @@ part_more is more all = (
 )
 
 pub part_skipped : {G R X A K : Type 0} → (K → ⊥) → ((G ⊎ ((K × X) ⊎ R)) ↔ A) → (G ⊎ R) ↔ A
-part_skipped no all = (
+part_skipped none_so all = (
   (λ h. all.0 (elim h [ inl g ↦ inl g | inr r ↦ inr (inr r) ])),
   (λ h. elim (all.1 h) [
     | inl g ↦ inl g
-    | inr o ↦ elim o [ inl x ↦ absurd (no x.0) | inr r ↦ inr r ]
+    | inr o ↦ elim o [ inl x ↦ absurd (none_so x.0) | inr r ↦ inr r ]
   ]),
 )
+
+pub other_kind : (a b : PartKind) → a ≡ b → (code a == code b) ≡ false → ⊥
+other_kind a b same none_so = true≢false (sym (eq-eqb (code a) (code b) (ap code same)) ∙ none_so)
+
+pub part_joined : {G N R Y A : Type 0} → (N ↔ (G ⊎ Y)) → ((G ⊎ (Y ⊎ R)) ↔ A) → (N ⊎ R) ↔ A
+part_joined more all = (
+  (λ h. all.0 (elim h [
+    | inl a ↦ elim (more.0 a) [ inl g ↦ inl g | inr y ↦ inr (inl y) ]
+    | inr r ↦ inr (inr r)
+  ])),
+  (λ h. elim (all.1 h) [
+    | inl g ↦ inl (more.1 (inl g))
+    | inr o ↦ elim o [ inl y ↦ inl (more.1 (inr y)) | inr r ↦ inr r ]
+  ]),
+)
+
+pub no_parts : (parts : List RulePart) → length parts ≡ 0 → parts ≡ []
+no_parts [] e = refl
+no_parts (x ∷ xs) e = absurd (omega (arith, e))
+
+pub if_ok_more : {X E : Type 0} {P Q : X → Type 0} (r : Result X E) → ((x : X) → P x → Q x) → IfOk r P → IfOk r Q
+if_ok_more (Ok x) f h = f x h
+if_ok_more (Err e) f h = h

@@ -5,3 +5,7 @@ pub mod RangeFacts
 pub mod PartFacts
 pub mod HolidayFacts
 pub mod GatherFacts
+pub mod ListedFacts
+pub mod KindFacts
+pub mod LowerFacts
+pub mod EasterFacts

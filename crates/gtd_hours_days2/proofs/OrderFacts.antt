@@ -25,16 +25,16 @@ yearly-to (yearly.Date month day) (end.Date x) is each =
     λ same.
     let m : month ≡ 2 = cc in
     let d : day ≡ 29 = cc in
-    let no = leap_day x.month x.day (is.0 ∙ m) (is.1 ∙ d) in
+    let none_so = leap_day x.month x.day (is.0 ∙ m) (is.1 ∙ d) in
     cc
 yearly-to (yearly.Date month day) (end.Place x) is each = absurd is
 yearly-to (yearly.NthWeekday month weekday number is_back offset) x is each = λ same. absurd cc
 yearly-to (yearly.Easter offset) x is each = absurd is
 
 other_day : (m d : ℕ) (p q : Bool) → ((p ≡ true) → (q ≡ true) → ⊥) → not (p && q) ≡ true
-other_day m d true true no = absurd (no refl refl)
-other_day m d true false no = refl
-other_day m d false q no = refl
+other_day m d true true none_so = absurd (none_so refl refl)
+other_day m d true false none_so = refl
+other_day m d false q none_so = refl
 
 pub yearly-from : (e : YearlyDay) (x : End) → IsEndOf e x → IsYearly e → is_yearly x ≡ true
 yearly-from (yearly.Date month day) (end.Date x) is each =

@@ -1,6 +1,7 @@
 -- Ranges of plain hours have the days of ranges of days of each year.
 use Rattle.std.proofs.Common.{◌≡◌, ◌↔◌, ◌∙◌, ◌⊎◌, inl, inr, sym, ap, subst, refl, arith, ℕ, Bool, true, false, ◌&&◌, Option}
 use Rattle.std.proofs.Common.{ℤ, pos, ◌+ℤ◌, ◌-ℤ◌, ◌≤ℤ◌, ◌<ℤ◌}
+use Rattle.std.proofs.lemmas.Bool.{true≢false}
 use Rattle.gtd_calendar.specs.facts.Signed.{signed_arith}
 use Rattle.gtd_calendar.specs.declared.day.DayFields.{DayFields}
 use Rattle.gtd_hours.specs.ComputedPlaces.{end_day}
@@ -47,10 +48,10 @@ moving_holds : (years : Option (ℕ × ℕ)) (first last : YearlyDay) (a b : End
     → is_easter first ≡ false → is_easter last ≡ false → IsEndOf first a → IsEndOf last b
     → (is_yearly a ≡ true) × (is_yearly b ≡ true) × ((over : Bool) × AreOrdered over a b)
     → IsMovingBetween a b n ↔ InDays years false first last n f
-moving_holds years first last a b n f no also p q fit = (
+moving_holds years first last a b n f none_so also p q fit = (
   (λ h.
       let y : ℤ = h.2.0 in (
-        (λ is. absurd (elim is [ inl e ↦ (let no = no in cc) | inr e ↦ (let also = also in cc) ])),
+        (λ is. absurd (elim is [ inl e ↦ true≢false (sym e ∙ none_so) | inr e ↦ true≢false (sym e ∙ also) ])),
         inr (
           h.0,
           y,
@@ -100,14 +101,14 @@ between-holds years first (yearly.Easter o) a b n f p q fit = absurd q
 
 -- ---- which make a range
 
-moving_fits : (first last : YearlyDay) (a b : End) → is_easter first ≡ false → (is_date first && is_date last) ≡ false
-    → IsEndOf first a → IsEndOf last b
+moving_fits : (first last : YearlyDay) (a b : End) → is_easter first ≡ false → is_easter last ≡ false
+    → (is_date first && is_date last) ≡ false → IsEndOf first a → IsEndOf last b
     → ((is_yearly a ≡ true) × (is_yearly b ≡ true) × ((over : Bool) × AreOrdered over a b)) ↔ IsYearlyRange first last
-moving_fits first last a b no dates p q = (
-  (λ h. inr (inr (h.2.0, order-to h.2.0 first last a b p q h.0 h.1 h.2.1))),
+moving_fits first last a b none_so also dates p q = (
+  (λ h. inr (none_so, also, inr (h.2.0, order-to h.2.0 first last a b p q h.0 h.1 h.2.1))),
   (λ h. elim h [
-    | inl e ↦ (let is = e.0 in absurd cc)
-    | inr r ↦ elim r [
+    | inl e ↦ absurd (true≢false (sym e.0 ∙ none_so))
+    | inr r ↦ elim (r.2) [
       | inl both ↦ absurd (never (is_date first) (is_date last) both.0 both.1 dates)
       | inr o ↦ (
         yearly-from first a p o.1.yearly.0,
@@ -119,19 +120,20 @@ moving_fits first last a b no dates p q = (
 )
   where
     never : (s t : Bool) → s ≡ true → t ≡ true → (s && t) ≡ false → ⊥
-    never true true e f no = absurd cc
-    never true false e f no = absurd cc
-    never false t e f no = absurd cc
+    never true true e f none_so = absurd cc
+    never true false e f none_so = absurd cc
+    never false t e f none_so = absurd cc
 
 pub ends-fit : (first last : YearlyDay) (a b : End) → IsEndOf first a → IsEndOf last b
     → AreEnds a b ↔ IsYearlyRange first last
-ends-fit (yearly.Date m d) (yearly.Date k e) (end.Date x) (end.Date y) p q = ((λ h. inr (inl (refl, refl))), (λ h. tt))
+ends-fit (yearly.Date m d) (yearly.Date k e) (end.Date x) (end.Date y) p q =
+    ((λ h. inr (refl, refl, inl (refl, refl))), (λ h. tt))
 ends-fit (yearly.Date m d) (yearly.NthWeekday k w i c o) (end.Date x) (end.Place y) p q =
-    moving_fits (yearly.Date m d) (yearly.NthWeekday k w i c o) (end.Date x) (end.Place y) refl refl p q
+    moving_fits (yearly.Date m d) (yearly.NthWeekday k w i c o) (end.Date x) (end.Place y) refl refl refl p q
 ends-fit (yearly.NthWeekday k w i c o) (yearly.Date m d) (end.Place x) (end.Date y) p q =
-    moving_fits (yearly.NthWeekday k w i c o) (yearly.Date m d) (end.Place x) (end.Date y) refl refl p q
+    moving_fits (yearly.NthWeekday k w i c o) (yearly.Date m d) (end.Place x) (end.Date y) refl refl refl p q
 ends-fit (yearly.NthWeekday k w i c o) (yearly.NthWeekday m v j e u) (end.Place x) (end.Place y) p q =
-    moving_fits (yearly.NthWeekday k w i c o) (yearly.NthWeekday m v j e u) (end.Place x) (end.Place y) refl refl p q
+    moving_fits (yearly.NthWeekday k w i c o) (yearly.NthWeekday m v j e u) (end.Place x) (end.Place y) refl refl refl p q
 ends-fit (yearly.Date m d) last (end.Place x) b p q = absurd p
 ends-fit (yearly.NthWeekday k w i c o) last (end.Date x) b p q = absurd p
 ends-fit (yearly.Easter o) last a b p q = absurd p

@@ -27,9 +27,10 @@ abbrev pub IsHolidayOffset : HolidayKind → DayOffset → Type 0
 IsHolidayOffset which.Public offset = offset.days ≤ 366
 IsHolidayOffset which.School offset = offset.days ≡ 0
 
--- one day of Easter, or a range in the same order each year
+-- one day of Easter, or a range in the same order each year that is not of Easter
 abbrev pub IsYearlyRange : YearlyDay → YearlyDay → Type 0
-IsYearlyRange first last = ((is_easter first ≡ true) × (first ≡ last)) ⊎ MakeRange first last
+IsYearlyRange first last = ((is_easter first ≡ true) × (first ≡ last))
+    ⊎ ((is_easter first ≡ false) × (is_easter last ≡ false) × MakeRange first last)
 
 abbrev pub IsPartInRange : RulePart → Type 0
 IsPartInRange (part.Years first last step) = IsYears first (final_of last) step

@@ -1,9 +1,10 @@
 -- What a part is among the selectors of plain hours.
-use Rattle.std.specs.Prelude.{◌⊎◌, ◌↔◌, Bool, List, [], ◌∷◌, Option, Some, None, ℤ}
+use Rattle.std.specs.Prelude.{◌≡◌, ◌⊎◌, ◌↔◌, Bool, List, [], ◌∷◌, Option, Some, None, ℤ}
 use Rattle.gtd_calendar.specs.Calendar.{AreFieldsOf}
 use Rattle.gtd_calendar.specs.declared.day.DayFields.{DayFields}
 use Rattle.gtd_hours.specs.Opening.{HoldsOn as PlainHoldsOn, SomeHolds}
 use Rattle.gtd_hours2.specs.Opening.{Clocks, HoldsOn, SomeHolds as SomePartHolds}
+use Rattle.gtd_hours2.specs.Rules.{kind_of}
 use Rattle.gtd_hours2.specs.declared.values.PartKind.{PartKind}
 use Rattle.gtd_hours2.specs.declared.values.RulePart.{RulePart}
 use Rattle.gtd_hours_days.specs.Listed.{IsListed}
@@ -57,3 +58,9 @@ IsOneMore known part before after = (clocks : Clocks) (n : ℤ) (f : DayFields) 
 abbrev pub AreGathered : Known → Bool → PartKind → List RulePart → Gathered → Type 0
 AreGathered known leads k parts gathered = (clocks : Clocks) (n : ℤ) (f : DayFields) → AreFieldsOf n f
     → GatheredHolds known gathered n f ↔ SomePartHolds (given_days known clocks) leads k parts n f
+
+-- one part more, if it is of the kind
+abbrev pub IsOneMoreOf : Known → Bool → PartKind → RulePart → Gathered → Gathered → Type 0
+IsOneMoreOf known leads k part before after = (clocks : Clocks) (n : ℤ) (f : DayFields) → AreFieldsOf n f
+    → GatheredHolds known after n f
+    ↔ (GatheredHolds known before n f ⊎ ((kind_of leads part ≡ k) × HoldsOn (given_days known clocks) part n f))

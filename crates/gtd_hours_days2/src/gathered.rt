@@ -32,18 +32,35 @@ impl Gathered {
     }
 }
 
+// One selector more before the listed days.
+fn with_front(gathered: Gathered, selector: Selector) -> Result<Gathered, AllocError>
+    ensures { IfOk result (λ then. (known : Known) (n : ℤ) (f : DayFields)
+        → GatheredHolds known then n f ↔ (GatheredHolds known gathered n f ⊎ HoldsOn selector n f)) }
+{
+    let mut next = gathered;
+    next.front.push(selector)?;
+    Ok(next)
+}
+
+// One more after them.
+fn with_back(gathered: Gathered, selector: Selector) -> Result<Gathered, AllocError>
+    ensures { IfOk result (λ then. (known : Known) (n : ℤ) (f : DayFields)
+        → GatheredHolds known then n f ↔ (GatheredHolds known gathered n f ⊎ HoldsOn selector n f)) }
+{
+    let mut next = gathered;
+    next.back.push(selector)?;
+    Ok(next)
+}
+
 // One selector more.
 fn with_selector(gathered: Gathered, selector: Selector) -> Result<Gathered, AllocError>
     ensures { IfOk result (λ then. (known : Known) (n : ℤ) (f : DayFields)
         → GatheredHolds known then n f ↔ (GatheredHolds known gathered n f ⊎ HoldsOn selector n f)) }
 {
-    let mut then = gathered;
-    if then.listed.is_empty() {
-        then.front.push(selector)?;
-    } else {
-        then.back.push(selector)?;
+    if gathered.listed.is_empty() {
+        return with_front(gathered, selector);
     }
-    Ok(then)
+    with_back(gathered, selector)
 }
 
 // Listed days more.
@@ -51,9 +68,9 @@ fn with_listed(gathered: Gathered, listed: Listed) -> Result<Gathered, AllocErro
     ensures { IfOk result (λ then. (known : Known) (n : ℤ) (f : DayFields) → GatheredHolds known then n f
         ↔ (GatheredHolds known gathered n f ⊎ IsListedIn (rows_of known.holidays) known.years listed n)) }
 {
-    let mut then = gathered;
-    then.listed.push(listed)?;
-    Ok(then)
+    let mut next = gathered;
+    next.listed.push(listed)?;
+    Ok(next)
 }
 
 /// One part more.
@@ -65,8 +82,9 @@ pub(crate) fn with_lowered(gathered: Gathered, lowered: Lowered) -> Result<Gathe
         Lowered::Nothing => Ok(gathered),
         Lowered::One(selector) => with_selector(gathered, selector),
         Lowered::Two(first, second) => {
-            let then = with_selector(gathered, first)?;
-            with_selector(then, second)
+            let one = with_selector(gathered, first)?;
+            let both = with_selector(one, second)?;
+            Ok(both)
         }
         Lowered::Listed(listed) => with_listed(gathered, listed),
     }

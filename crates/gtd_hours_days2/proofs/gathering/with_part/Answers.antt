@@ -1,0 +1,7 @@
+-- The part holds where what it is lowered to does.
+use Rattle.gtd_hours_days2.proofs.GatherFacts.{or_same}
+use Rattle.gtd_hours_days2.proofs.gathering.with_part.Goals as goal
+
+pub returns-in_ok-then-clause-more : goal.returns-in_ok-then-clause-more
+returns-in_ok-then-clause-more c = λ clocks n f fields.
+    or_same (c.in_ok-then.ensures c.args.known.now n f) (c.in-Some.ensures.kept clocks n f fields)
