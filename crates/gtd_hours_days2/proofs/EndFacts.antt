@@ -2,7 +2,9 @@
 use Rattle.std.proofs.Common.{◌≡◌, ◌↔◌, sym, subst, refl, inl, inr, ◌⊎◌, arith, ℕ, ◌+◌, ◌*◌, ◌≤◌, ◌<◌, Bool, true, false, ◌||◌}
 use Rattle.std.proofs.Common.{ℤ, pos, ◌+ℤ◌, ◌-ℤ◌, ◌≤ℤ◌, ◌<ℤ◌}
 use Rattle.gtd_calendar.specs.facts.Signed.{signed_arith}
-use Rattle.gtd_calendar.specs.Calendar.{IsCalendarDay}
+use Rattle.std.proofs.Common.{Option, Some, None}
+use Rattle.std.specs.Prelude.{IfSome}
+use Rattle.gtd_calendar.specs.Calendar.{IsCalendarDay, IsCalendarYear}
 use Rattle.gtd_calendar.specs.declared.day.DayFields.{DayFields}
 use Rattle.gtd_hours.specs.ComputedPlaces.{IsInOrder, end_day, place_day}
 use Rattle.gtd_hours.specs.Moving.{AreInOrder as ArePlainInOrder, IsEndIn, IsInMoving, IsMoving, day_from, is_place, is_yearly, last_year}
@@ -142,3 +144,15 @@ place-exists x y = (
   (λ h. subst IsCalendarDay (end-only (end.Place x) y h.0 h.1) h.2),
   (λ h. (end_day (end.Place x) y, end-is (end.Place x) y refl, h)),
 )
+
+pub if_some_more : {X : Type 0} {P Q : X → Type 0} (o : Option X) → ((x : X) → P x → Q x) → IfSome o P → IfSome o Q
+if_some_more None f h = h
+if_some_more (Some x) f h = f x h
+
+pub calendar-year : (y : ℕ) → (1800 ≤ y) × (y ≤ 2799) → IsCalendarYear (pos y)
+calendar-year y h =
+    (let low = h.0 in omega (arith, signed_arith, low), let high = h.1 in omega (arith, signed_arith, high))
+
+pub year-calendar : (y : ℕ) → IsCalendarYear (pos y) → (1800 ≤ y) × (y ≤ 2799)
+year-calendar y h =
+    (let low = h.0 in omega (arith, signed_arith, low), let high = h.1 in omega (arith, signed_arith, high))

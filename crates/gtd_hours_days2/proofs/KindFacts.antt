@@ -1,11 +1,11 @@
 -- Kinds of selectors, one after another, and the days that they match.
-use Rattle.std.proofs.Common.{◌≡◌, ◌↔◌, ◌∙◌, sym, subst, refl, Bool, true, false, List, [], ◌∷◌, Option, Some, None, ℤ}
+use Rattle.std.proofs.Common.{◌≡◌, ◌↔◌, ◌∙◌, sym, subst, refl, Bool, true, false, List, [], ◌∷◌, ◌++◌, Option, Some, None, ℤ}
 use Rattle.std.proofs.lemmas.Bool.{true≢false}
 use Rattle.gtd_calendar.specs.Calendar.{AreFieldsOf}
 use Rattle.gtd_calendar.specs.declared.day.DayFields.{DayFields}
-use Rattle.gtd_hours.specs.Opening.{EachHolds, Matches as PlainMatches}
+use Rattle.gtd_hours.specs.Opening.{EachHolds, Matches as PlainMatches, SomeHolds as PlainSomeHolds}
 use Rattle.gtd_hours.specs.declared.hours.Kind.{Kind}
-use Rattle.gtd_hours2.specs.Opening.{Clocks, Given, Matches, SomeHolds}
+use Rattle.gtd_hours2.specs.Opening.{Clocks, Matches, SomeHolds}
 use Rattle.gtd_hours2.specs.Rules.{Rule, has_kind}
 use Rattle.gtd_hours2.specs.declared.values.PartKind.{PartKind}
 use Rattle.gtd_hours2.specs.declared.values.PartKind.TheVariants as kind
@@ -36,20 +36,20 @@ no_kinds known leads parts = λ clocks n f fields. ((λ h. tt), (λ h. tt))
 abbrev pub all_kinds : List PartKind
 all_kinds = kind.Days ∷ kind.LeadingHolidays ∷ kind.Weeks ∷ kind.MonthDays ∷ kind.Years ∷ []
 
-abbrev EachOther : (Given) → Bool → List RulePart → ℤ → DayFields → Type 0
-EachOther g leads parts n f = (k : PartKind) → (k ≡ kind.Times → ⊥) → has_kind leads k parts ≡ true → SomeHolds g leads k parts n f
-
 each_other : (known : Known) (clocks : Clocks) (leads : Bool) (parts : List RulePart) (n : ℤ) (f : DayFields)
-    → EachKind (given_days known clocks) leads all_kinds parts n f → EachOther (given_days known clocks) leads parts n f
-each_other known clocks leads parts n f h kind.Years none_so has = h.1.1.1.1.0 has
-each_other known clocks leads parts n f h kind.MonthDays none_so has = h.1.1.1.0 has
-each_other known clocks leads parts n f h kind.Weeks none_so has = h.1.1.0 has
-each_other known clocks leads parts n f h kind.LeadingHolidays none_so has = h.1.0 has
-each_other known clocks leads parts n f h kind.Days none_so has = h.0 has
-each_other known clocks leads parts n f h kind.Times none_so has = absurd (none_so refl)
+    → EachKind (given_days known clocks) leads all_kinds parts n f → (k : PartKind) → (k ≡ kind.Times → ⊥)
+    → has_kind leads k parts ≡ true → SomeHolds (given_days known clocks) leads k parts n f
+each_other known clocks leads parts n f h kind.Years other has = h.1.1.1.1.0 has
+each_other known clocks leads parts n f h kind.MonthDays other has = h.1.1.1.0 has
+each_other known clocks leads parts n f h kind.Weeks other has = h.1.1.0 has
+each_other known clocks leads parts n f h kind.LeadingHolidays other has = h.1.0 has
+each_other known clocks leads parts n f h kind.Days other has = h.0 has
+each_other known clocks leads parts n f h kind.Times other has = absurd (other refl)
 
 each_all : (known : Known) (clocks : Clocks) (leads : Bool) (parts : List RulePart) (n : ℤ) (f : DayFields)
-    → EachOther (given_days known clocks) leads parts n f → EachKind (given_days known clocks) leads all_kinds parts n f
+    → ((k : PartKind) → (k ≡ kind.Times → ⊥) → has_kind leads k parts ≡ true
+    → SomeHolds (given_days known clocks) leads k parts n f)
+    → EachKind (given_days known clocks) leads all_kinds parts n f
 each_all known clocks leads parts n f h = (
   h kind.Days (λ e. absurd cc),
   (
@@ -74,4 +74,14 @@ all-match known leads parts kinds are = λ clocks rule e f n.
         h.1,
         (here clocks n h.0 h.1).1 (each_all known clocks rule.head.leads rule.parts n h.0 h.2),
       )),
+    )
+
+-- the last of the kinds
+pub each_more : (kinds : List Kind) (one : Kind) (n : ℤ) (f : DayFields)
+    → EachHolds (kinds ++ one ∷ []) n f ↔ (PlainSomeHolds one.selectors.items n f × EachHolds kinds n f)
+each_more [] one n f = ((λ h. h), (λ h. h))
+each_more (k ∷ kinds) one n f =
+    let more = each_more kinds one n f in (
+      (λ h. let both = more.0 h.1 in (both.0, (h.0, both.1))),
+      (λ h. (h.1.0, more.1 (h.0, h.1.1))),
     )

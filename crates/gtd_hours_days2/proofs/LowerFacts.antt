@@ -10,7 +10,10 @@ use Rattle.gtd_hours.specs.declared.hours.Dated.{Dated}
 use Rattle.gtd_hours.specs.declared.hours.Selector.{Selector}
 use Rattle.gtd_hours.specs.declared.hours.Selector.TheVariants as selector
 use Rattle.gtd_hours.specs.declared.hours.YearDate.{YearDate}
+use Rattle.gtd_hours.specs.Yearly.{IsOfDays}
+use Rattle.gtd_hours.specs.declared.hours.YearlyDays.{YearlyDays}
 use Rattle.gtd_hours.specs.declared.hours.Years.{Years}
+use Rattle.gtd_hours_holidays.specs.KnownYears.{IsOfYears}
 use Rattle.gtd_hours2.specs.Opening.{IsInWeeks, are_many, last_known}
 use Rattle.gtd_hours2.specs.Days.{is_easter}
 use Rattle.gtd_hours2.specs.declared.values.RulePart.TheVariants as part
@@ -92,7 +95,12 @@ pub whole_years : (x : Years) (first last step : ℕ) → x.first ≡ first → 
 whole_years x first last step p q r = λ n f. rw (p, q, r) ((λ h. h), (λ h. h))
 
 -- what holds whatever is known holds with what is known
-pub if_some_known : {part : RulePart} (o : Option Lowered) (known : Known) → IfSome o (IsLoweredAlways part)
-    → IfSome o (IsLowered known part)
-if_some_known None known h = h
-if_some_known (Some x) known h = h known
+pub if_some_known : (x : RulePart) (o : Option Lowered) (known : Known) → IfSome o (IsLoweredAlways x)
+    → IfSome o (IsLowered known x)
+if_some_known x None known h = h
+if_some_known x (Some y) known h = h known
+
+pub yearly-holds : (x : YearlyDays) (a b m d k : ℕ) (n : ℤ) (f : DayFields) → x.first ≡ a → x.last ≡ b → x.month ≡ m
+    → x.day ≡ d → x.days ≡ k → HoldsOn (selector.Yearly x) n f ↔ (IsOfYears a b n × IsOfDays m d k n)
+yearly-holds x a b m d k n f p q r s t =
+    rw (p, q, r, s, t) ((λ h. ((h.0, h.1), h.2)), (λ h. (h.0.0, h.0.1, h.1)))

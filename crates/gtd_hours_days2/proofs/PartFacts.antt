@@ -9,6 +9,7 @@ use Rattle.gtd_calendar.specs.facts.FieldLemmas.{fields-only}
 use Rattle.gtd_calendar.specs.facts.YearDays.{year_length-few}
 use Rattle.gtd_hours.specs.Moving.{IsAtPlace, IsMovedFrom, day_from}
 use Rattle.gtd_hours.specs.Opening.{IsRound, IsStep}
+use Rattle.gtd_hours.specs.Ranges.{IsWeeks}
 use Rattle.gtd_hours.specs.declared.hours.WeekdayPlace.{WeekdayPlace}
 use Rattle.gtd_hours.specs.declared.places.MovedPlace.{MovedPlace}
 use Rattle.gtd_hours2.specs.Days.{moved}
@@ -108,3 +109,27 @@ none-after first last step y lt is = early first last y lt is.0 is.1
   where
     early : (first last y : ℕ) → last < first → first ≤ y → y ≤ last → ⊥
     early first last y lt a b = omega (arith, lt, a, b)
+
+-- ---- numbers
+
+pub no_days : (k : ℕ) → k ≡ 0 → 1 ≤ k → ⊥
+no_days k e low = omega (arith, e, low)
+
+pub some_days : (k : ℕ) → (k ≡ 0 → ⊥) → 1 ≤ k
+some_days k other = omega (arith, other)
+
+pub late_weeks : (first last w : ℕ) → last < first → first ≤ 53 → w ≡ first → IsWeeks w 53 1
+late_weeks first last w lt few e = (omega (arith, lt, e), omega (arith, few, e), omega arith, omega arith, omega arith)
+
+pub early_weeks : (first last w : ℕ) → last < first → first ≤ 53 → 1 ≤ last → w ≡ last → IsWeeks 1 w 1
+early_weeks first last w lt few low e =
+    (omega arith, omega (arith, low, e), omega (arith, lt, few, e), omega arith, omega arith)
+
+pub are_back : (first last v w : ℕ) → v ≡ first → w ≡ last → IsWeeks v 53 1 → IsWeeks 1 w 1 → (first ≤ 53) × (1 ≤ last)
+are_back first last v w e g late early = by_parts late.1 early.1
+  where
+    by_parts : v ≤ 53 → 1 ≤ w → (first ≤ 53) × (1 ≤ last)
+    by_parts a b = (omega (arith, a, e), omega (arith, b, g))
+
+pub not_in_time : (first last : ℕ) → (first ≤ last → ⊥) → last < first
+not_in_time first last late = omega (arith, late)

@@ -3,7 +3,7 @@
 use std::alloc::AllocError;
 
 /// Why parts have no selectors.
-#[derive(Clone, Copy, Debug, PartialEq, Eq)]
+#[derive(Clone, Copy)]
 pub enum DaysFault {
     /// A part is out of range.
     OutOfRange,

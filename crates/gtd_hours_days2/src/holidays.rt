@@ -8,6 +8,7 @@ ghost use Rattle.gtd_hours_days2.specs.InRange.{IsPartInRange};
 ghost use Rattle.gtd_hours_days2.specs.Lowered.{IsLoweredAlways};
 
 use crate::lowered::Lowered;
+use crate::places::is_unmoved;
 use gtd_hours_days::{Listed, Offset};
 use gtd_hours2::{DayOffset, HolidayKind};
 
@@ -50,7 +51,7 @@ fn school(offset: DayOffset) -> Option<Lowered>
     ensures kept { IfSome result (IsLoweredAlways (part.Holidays which.School offset)) }
     ensures accepted { IsSome result ↔ IsPartInRange (part.Holidays which.School offset) }
 {
-    if offset.days == 0 {
+    if is_unmoved(offset) {
         Some(Lowered::Listed(Listed::School))
     } else {
         None

@@ -1,10 +1,9 @@
 //! The kinds of selectors of a rule.
 
-ghost use Rattle.std.specs.Prelude.{◌≡◌, ◌↔◌, ◌==◌, ℤ, [], IfOk};
+ghost use Rattle.std.specs.Prelude.{◌↔◌, ◌∷◌, ℤ, [], IfOk};
 ghost use Rattle.gtd_calendar.specs.declared.day.DayFields.{DayFields};
-ghost use Rattle.gtd_hours.specs.Opening.{EachHolds};
-ghost use Rattle.gtd_hours2.specs.Rules.{code, has_kind, is_of};
-ghost use Rattle.gtd_hours_days2.specs.Kinds.{AreKinds, AreKindsOf, IsKindOf, OptionHolds};
+ghost use Rattle.gtd_hours.specs.Opening.{EachHolds, SomeHolds};
+ghost use Rattle.gtd_hours_days2.specs.Kinds.{AreKinds, AreKindsOf, OptionHolds};
 ghost use Rattle.gtd_hours2.specs.declared.values.PartKind.TheVariants as kind;
 
 use crate::fault::DaysFault;
@@ -14,16 +13,25 @@ use gtd_hours::Kind;
 use gtd_hours2::{PartKind, RulePart};
 use std::alloc::{AllocError, Global};
 
+// Kinds, and one more.
+fn with_more(kinds: Vec<Kind>, kind: Kind) -> Result<Vec<Kind>, AllocError>
+    ensures { IfOk result (λ then. (n : ℤ) (f : DayFields)
+        → EachHolds then.items n f ↔ (SomeHolds kind.selectors.items n f × EachHolds kinds.items n f)) }
+{
+    let mut list = kinds;
+    list.push(kind)?;
+    Ok(list)
+}
+
 // Kinds, and one more if there is one.
 fn with_kind(kinds: Vec<Kind>, kind: Option<Kind>) -> Result<Vec<Kind>, AllocError>
     ensures { IfOk result (λ then. (n : ℤ) (f : DayFields)
         → EachHolds then.items n f ↔ (OptionHolds kind n f × EachHolds kinds.items n f)) }
 {
-    let mut list = kinds;
-    if let Some(more) = kind {
-        list.push(more)?;
+    match kind {
+        None => Ok(kinds),
+        Some(more) => with_more(kinds, more),
     }
-    Ok(list)
 }
 
 // Years, month days and weeks.

@@ -1,6 +1,6 @@
 //! What is gathered, as a kind of selectors.
 
-ghost use Rattle.std.specs.Prelude.{◌≡◌, ◌↔◌, ℤ, IfOk};
+ghost use Rattle.std.specs.Prelude.{◌≡◌, ◌↔◌, ◌++◌, ℤ, IfOk};
 ghost use Rattle.gtd_calendar.specs.declared.day.DayFields.{DayFields};
 ghost use Rattle.gtd_hours.specs.Opening.{SomeHolds};
 ghost use Rattle.gtd_hours_days.specs.Listed.{CoversAll, SomeListed};
@@ -69,9 +69,6 @@ fn listed_days(alloc: Global, known: &Known, listed: &[Listed]) -> Result<Vec<Se
     ensures days { IfOk result (λ days. (n : ℤ) (f : DayFields)
         → SomeHolds days.items n f ↔ SomeListedIn (rows_of known.now.holidays) known.now.years listed.now n) }
 {
-    if listed.is_empty() {
-        return Ok(Vec::new(alloc));
-    }
     match known.years {
         None => Ok(Vec::new(alloc)),
         Some(years) => days_in(alloc, known, years, listed),
@@ -79,14 +76,19 @@ fn listed_days(alloc: Global, known: &Known, listed: &[Listed]) -> Result<Vec<Se
 }
 
 // The selectors before the listed days, these days, and the selectors after them.
-fn joined(gathered: Gathered, days: Vec<Selector>) -> Result<Vec<Selector>, AllocError>
-    ensures { IfOk result (λ all. all.items ≡ gathered.front.items ++ days.items ++ gathered.back.items) }
+fn joined(
+    front: Vec<Selector>,
+    days: Vec<Selector>,
+    back: Vec<Selector>,
+) -> Result<Vec<Selector>, AllocError>
+    ensures { IfOk result (λ all. all.items ≡ front.items ++ days.items ++ back.items) }
 {
-    let mut parts = gathered;
+    let mut all = front;
     let mut middle = days;
-    parts.front.append(&mut middle)?;
-    parts.front.append(&mut parts.back)?;
-    Ok(parts.front)
+    all.append(&mut middle)?;
+    let mut end = back;
+    all.append(&mut end)?;
+    Ok(all)
 }
 
 /// What is gathered, as a kind.
@@ -95,6 +97,6 @@ pub(crate) fn kind_of(alloc: Global, gathered: Gathered, known: &Known) -> Resul
         → SomeHolds kind.selectors.items n f ↔ GatheredHolds known.now gathered n f) }
 {
     let days = listed_days(alloc, known, gathered.listed.as_slice())?;
-    let selectors = joined(gathered, days)?;
+    let selectors = joined(gathered.front, days, gathered.back)?;
     Ok(Kind { selectors })
 }

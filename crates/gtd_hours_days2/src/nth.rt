@@ -11,7 +11,7 @@ ghost use Rattle.gtd_hours_days2.specs.Lowered.{IsLoweredAlways};
 ghost use Rattle.gtd_hours_days2.specs.Nth.{IsNth, IsNthDay};
 
 use crate::lowered::Lowered;
-use crate::places::moved_place;
+use crate::places::{is_unmoved, moved_place};
 use gtd_hours::{Selector, WeekdayPlace};
 use gtd_hours2::DayOffset;
 
@@ -42,7 +42,7 @@ fn by_offset(place: WeekdayPlace, is_back: bool, offset: DayOffset) -> Option<Se
         → HoldsOn x n f ↔ IsNthDay place.weekday place.number is_back offset n) }
     ensures accepted { IsSome result ↔ IsNth place.weekday place.number is_back offset }
 {
-    if offset.days == 0 {
+    if is_unmoved(offset) {
         return Some(unmoved(place, is_back));
     }
     moved(place, is_back, offset)

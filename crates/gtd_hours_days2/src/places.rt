@@ -1,6 +1,6 @@
 //! Weekdays of a month by their number, as places of plain hours.
 
-ghost use Rattle.std.specs.Prelude.{◌≡◌, ◌↔◌, ◌<◌, ◌≤◌, IfSome, IsSome, MatchOption};
+ghost use Rattle.std.specs.Prelude.{◌≡◌, ◌↔◌, ◌<◌, ◌≤◌, IfSome, IsSome, IsTrue, MatchOption};
 ghost use Rattle.gtd_hours.specs.Ranges.{IsMovable};
 ghost use Rattle.gtd_hours_days2.specs.Ends.{IsMonthPlace, IsPlaceOf};
 
@@ -12,6 +12,13 @@ pub(crate) fn few_days(days: u16) -> Option<u8>
     ensures { MatchOption result (27 < days) (λ few. few ≡ days) }
 {
     if days <= 27 { Some(days as u8) } else { None }
+}
+
+/// Whether there are no days after a day or before it.
+pub(crate) fn is_unmoved(offset: DayOffset) -> bool
+    ensures { IsTrue result ↔ (offset.days ≡ 0) }
+{
+    offset.days == 0
 }
 
 /// So many days after such a weekday, or before it.

@@ -1,6 +1,6 @@
 //! Years, which may go on to the last of the known ones.
 
-ghost use Rattle.std.specs.Prelude.{◌≡◌, ◌↔◌, ℕ, ℤ, pos, None, Some, IfSome, IsSome};
+ghost use Rattle.std.specs.Prelude.{◌≡◌, ◌↔◌, ◌≤◌, ℕ, ℤ, pos, None, Some, IfSome, IsSome, IsTrue};
 ghost use Rattle.gtd_calendar.specs.declared.day.DayFields.{DayFields};
 ghost use Rattle.gtd_hours2.specs.Opening.{IsStep, last_known};
 ghost use Rattle.gtd_hours2.specs.declared.values.RulePart.TheVariants as part;
@@ -14,12 +14,19 @@ use crate::lowered::Lowered;
 use gtd_hours::{Selector, Years};
 use gtd_hours_holidays::KnownYears;
 
+// Whether the years begin before the known ones end.
+fn begin_in_time(whole: Years, years: KnownYears) -> bool
+    ensures { IsTrue result ↔ (whole.first ≤ years.last) }
+{
+    whole.first <= years.last
+}
+
 // The years up to the last of the known ones.
 fn up_to(known: &Known, whole: Years, years: KnownYears) -> Lowered
     ensures { (n : ℤ) (f : DayFields) → LoweredHolds known.now result n f
         ↔ ((y : ℕ) × IsStep whole.first years.last whole.step y × (f.year ≡ pos y)) }
 {
-    if whole.first <= years.last {
+    if begin_in_time(whole, years) {
         Lowered::One(Selector::Years(Years {
             first: whole.first,
             last: years.last,

@@ -2,6 +2,6 @@
 use Rattle.gtd_hours_days2.proofs.GatherFacts.{or_same}
 use Rattle.gtd_hours_days2.proofs.gathering.with_part.Goals as goal
 
-pub returns-in_ok-then-clause-more : goal.returns-in_ok-then-clause-more
-returns-in_ok-then-clause-more c = λ clocks n f fields.
-    or_same (c.in_ok-then.ensures c.args.known.now n f) (c.in-Some.ensures.kept clocks n f fields)
+pub returns-in_ok-then-in-Some-clause-more : goal.returns-in_ok-then-in-Some-clause-more
+returns-in_ok-then-in-Some-clause-more c = λ clocks n f fields.
+    or_same (c.in_ok-then-in-Some.ensures c.args.known.now n f) (c.in-Some.ensures.kept clocks n f fields)

@@ -2,7 +2,7 @@
 use Rattle.std.proofs.Common.{◌≡◌, ◌∙◌, inl, inr, sym, ap, Bool, true, false}
 use Rattle.std.proofs.lemmas.Bool.{true≢false}
 use Rattle.gtd_hours2.specs.Rules.{code, kind_of}
-use Rattle.gtd_hours_days2.proofs.GatherFacts.{or_same, other_kind, same_kind}
+use Rattle.gtd_hours_days2.proofs.GatherFacts.{if_ok_more, or_same, other_kind, same_kind}
 use Rattle.gtd_hours_days2.proofs.gathering.with_part_of.Goals as goal
 
 pub returns-then-is_of-clause-more : goal.returns-then-is_of-clause-more

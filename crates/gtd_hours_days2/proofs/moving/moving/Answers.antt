@@ -1,7 +1,6 @@
 -- The range of plain hours has these ends, and their order.
-use Rattle.std.proofs.Common.{◌∙◌}
+use Rattle.std.proofs.Common.{refl}
 use Rattle.gtd_hours_days2.proofs.EndFacts.{moving-ends, moving-holds}
-use Rattle.gtd_hours_days2.proofs.LowerFacts.{iff_trans}
 use Rattle.gtd_hours_days2.proofs.moving.moving.Goals as goal
 
 pub returns-in-Some-clause-kept : goal.returns-in-Some-clause-kept
