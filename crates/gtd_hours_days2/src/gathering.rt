@@ -44,7 +44,7 @@ fn has_kind(leads: bool, kind: PartKind, parts: &[RulePart]) -> bool
 
 // One part more.
 fn with_part(gathered: Gathered, part: RulePart, known: &Known) -> Result<Gathered, DaysFault>
-    ensures more { IfOk result (λ then. IsOneMore known.now part gathered then) }
+    ensures { IfOk result (λ then. IsOneMore known.now part gathered then) }
 {
     if !is_given(part, known) {
         return Err(DaysFault::NotGiven);
@@ -66,7 +66,7 @@ fn with_part_of(
     part: RulePart,
     known: &Known,
 ) -> Result<Gathered, DaysFault>
-    ensures more { IfOk result (λ then. IsOneMoreOf known.now leads kind part gathered then) }
+    ensures { IfOk result (λ then. IsOneMoreOf known.now leads kind part gathered then) }
 {
     if is_of(leads, kind, part) {
         return with_part(gathered, part, known);
@@ -82,7 +82,7 @@ fn gather(
     parts: &[RulePart],
     known: &Known,
 ) -> Result<Gathered, DaysFault>
-    ensures all { IfOk result (λ gathered. AreGathered known.now leads kind parts.now gathered) }
+    ensures { IfOk result (λ gathered. AreGathered known.now leads kind parts.now gathered) }
 {
     let mut gathered = Gathered::new(alloc);
     let mut rest = parts;
@@ -102,7 +102,7 @@ pub(crate) fn kind_of_parts(
     parts: &[RulePart],
     known: &Known,
 ) -> Result<Option<Kind>, DaysFault>
-    ensures kind { IfOk result (IsKindOf known.now leads kind parts.now) }
+    ensures { IfOk result (IsKindOf known.now leads kind parts.now) }
 {
     if !has_kind(leads, kind, parts) {
         return Ok(None);

@@ -41,7 +41,7 @@ fn first_kinds(
     parts: &[RulePart],
     known: &Known,
 ) -> Result<Vec<Kind>, DaysFault>
-    ensures kinds { IfOk result (λ made.
+    ensures { IfOk result (λ made.
         AreKinds known.now leads (kind.Weeks ∷ kind.MonthDays ∷ kind.Years ∷ []) parts.now made.items) }
 {
     let years = kind_of_parts(alloc, leads, PartKind::Years, parts, known)?;
@@ -60,7 +60,7 @@ pub fn plain_kinds(
     parts: &[RulePart],
     known: &Known,
 ) -> Result<Vec<Kind>, DaysFault>
-    ensures kinds { IfOk result (λ made. AreKindsOf known.now leads parts.now made.items) }
+    ensures { IfOk result (λ made. AreKindsOf known.now leads parts.now made.items) }
 {
     let first = first_kinds(alloc, leads, parts, known)?;
     let leading = kind_of_parts(alloc, leads, PartKind::LeadingHolidays, parts, known)?;

@@ -66,7 +66,7 @@ fn days_in(
 
 // Listed days, which are none if no years are known.
 fn listed_days(alloc: Global, known: &Known, listed: &[Listed]) -> Result<Vec<Selector>, DaysFault>
-    ensures days { IfOk result (λ days. (n : ℤ) (f : DayFields)
+    ensures { IfOk result (λ days. (n : ℤ) (f : DayFields)
         → SomeHolds days.items n f ↔ SomeListedIn (rows_of known.now.holidays) known.now.years listed.now n) }
 {
     match known.years {
@@ -93,7 +93,7 @@ fn joined(
 
 /// What is gathered, as a kind.
 pub(crate) fn kind_of(alloc: Global, gathered: Gathered, known: &Known) -> Result<Kind, DaysFault>
-    ensures kind { IfOk result (λ kind. (n : ℤ) (f : DayFields)
+    ensures { IfOk result (λ kind. (n : ℤ) (f : DayFields)
         → SomeHolds kind.selectors.items n f ↔ GatheredHolds known.now gathered n f) }
 {
     let days = listed_days(alloc, known, gathered.listed.as_slice())?;

@@ -3,12 +3,12 @@ use Rattle.std.proofs.Common.{◌≡◌, ◌∙◌, sym}
 use Rattle.gtd_hours_days2.proofs.LowerFacts.{iff_trans}
 use Rattle.gtd_hours_days2.proofs.gathering.kind_of_parts.Goals as goal
 
-pub returns-then-not-has_kind-clause-kind : goal.returns-then-not-has_kind-clause-kind
-returns-then-not-has_kind-clause-kind c = sym c.has_kind.ensures ∙ c.if-not-has_kind.true
+pub returns-then-not-has_kind : goal.returns-then-not-has_kind
+returns-then-not-has_kind c = sym c.has_kind.ensures ∙ c.if-not-has_kind.true
 
-pub returns-clause-kind : goal.returns-clause-kind
-returns-clause-kind c = (
+pub returns : goal.returns
+returns c = (
   sym c.has_kind.ensures ∙ c.if-not-has_kind.false,
   (λ clocks n f fields.
-      iff_trans (c.in_ok-made.ensures.kind n f) (c.in_ok-gathered.ensures.all clocks n f fields)),
+      iff_trans (c.in_ok-made.ensures n f) (c.in_ok-gathered.ensures clocks n f fields)),
 )
