@@ -187,6 +187,9 @@ def compared():
         ("64 seconds of each minute in February", [f"(M2s{n % 60}){{s1}}" for n in range(64)]),
         ("64 dates with a second of each minute", [f"(M{1 + n % 12}d{1 + 7 * n % 28}s0){{s1}}" for n in range(64)]),
         ("64 days of the month with a second of each minute", [f"(d{1 + n % 31}s{7 * n % 60}){{s1}}" for n in range(64)]),
+        ("64 weekdays with a second of each minute", [f"(t{1 + n % 7}s{7 * n % 60}){{s1}}" for n in range(64)]),
+        ("64 weekdays of a month with a second of each minute",
+         [f"(t{1 + n % 7}M{1 + n % 12}s{7 * n % 60}){{s1}}" for n in range(64)]),
         ("64 months with a minute of each hour", [f"(M{1 + n % 12}m{7 * n % 60}){{m1}}" for n in range(64)]),
     ):
         one = f"[{joined(parts)}]"
@@ -564,6 +567,9 @@ def rows_alike(folder):
     file = folder.file("multiples", HEADER + "".join(f"{4093 * (n + 1)},both,0,{text}\n" for n, text in enumerate(seconds)))
     yield desk("65,536 elements in steps of 4,093, with unlike domains", ["same", "--file", file],
                MOST_ROWS * 512, "spans of which 512 of each row are looked at")
+    dated = [f"[(h8){{h2}}]-[(y2026M{1 + n % 12}d{1 + n // 12 % 28}){{d{1 + n // 336}}}]" for n in range(1_000)]
+    yield desk("1,000 streets, each day but for some days of 2026", ["same", "--file", folder.elements("dated_streets", dated)],
+               1_000 * 10_227, "spans")
     late = [f"[(y{2300 + n}M3d{1 + n % 28}){{d1}}]+[(M5d1){{d1}}]" for n in range(64)]
     yield desk("64 rows that differ after 2300 alone", ["same", "--file", folder.elements("late", late)])
 

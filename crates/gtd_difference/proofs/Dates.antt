@@ -2,7 +2,7 @@
 use Rattle.std.proofs.Common.{◌≡◌, ◌↔◌, ℕ, ◌+◌, ◌*◌, ◌<◌, refl, sym, ◌∙◌, subst, ap, arith, false, true, Bool, ◌||◌}
 use Rattle.std.proofs.Common.{is_some, inl}
 use Rattle.std.specs.Prelude.{ℤ, pos, ◌+ℤ◌, ◌-ℤ◌, ◌*ℤ◌, ◌≤ℤ◌, ◌<ℤ◌, IsTrue}
-use Rattle.std.proofs.lemmas.Int.{ints}
+use Rattle.std.proofs.lemmas.Int.{ints, by_lt_z}
 use Rattle.gtd_core.specs.Ranges.{bound_of}
 use Rattle.gtd_core.specs.Trees.{Tree, Single}
 use Rattle.gtd_core.specs.declared.duration.DurationParts.{DurationParts}
@@ -108,6 +108,20 @@ module _ (p : StartParts) (q : DurationParts) (clock : IsTrue (gives_clock p)) (
       → InStretches (clock_parts p) q t ↔ InStretches p q t
   as-undated date = (on-its-date date, free-of-date)
 
+  since-then : (from : ℤ) → from ≤ℤ t → (InStretches (clock_parts p) q (from -ℤ pos 1) → ⊥)
+      → ((b : ℤ) → from ≤ℤ b → b ≤ℤ t → InStretches (date_parts p) one_day b)
+      → InStretches (clock_parts p) q t → InStretches p q t
+  unfolding InStretches
+  since-then from later none date h =
+      by_lt_z {P = InStretches p q t} h.0 from
+      (λ lt. absurd (none (h.0, h.1, h.2, h.3, omega (arith, ints, lt), omega (arith, ints, later, h.5))))
+      (λ ge. (h.0, h.1, matches-on p h.0 clock h.2 (date h.0 ge h.4), h.3, h.4, h.5))
+
+  pub as-undated-since : (from : ℤ) → from ≤ℤ t → (InStretches (clock_parts p) q (from -ℤ pos 1) → ⊥)
+      → ((b : ℤ) → from ≤ℤ b → b ≤ℤ t → InStretches (date_parts p) one_day b)
+      → InStretches (clock_parts p) q t ↔ InStretches p q t
+  as-undated-since from later none date = (since-then from later none date, free-of-date)
+
 -- the same of trees of which it is known what they are
 pub undated : (p : StartParts) (q : DurationParts) (clocks dates : StartParts) (day : DurationParts) (own wide date : Tree)
     (longest : ℤ) → clocks ≡ clock_parts p → dates ≡ date_parts p → day ≡ one_day → own ≡ Single p q → wide ≡ Single clocks q
@@ -121,3 +135,17 @@ undated p q clocks dates day own wide date longest e f g is_own is_wide is_date 
     (subst (λ (x : Tree). InTree x t ↔ InStretches p q t) (sym without)
     (as-undated p q clock t (λ b low high. subst (λ (x : Tree). InTree x b) days (all b
     (omega (arith, ints, low, is_longest)) high))))
+
+pub undated-since : (p : StartParts) (q : DurationParts) (clocks dates : StartParts) (day : DurationParts) (own wide date : Tree)
+    → clocks ≡ clock_parts p → dates ≡ date_parts p → day ≡ one_day → own ≡ Single p q → wide ≡ Single clocks q
+    → date ≡ Single dates day → IsTrue (gives_clock p) → (from t : ℤ) → from ≤ℤ t → (InTree wide (from -ℤ pos 1) → ⊥)
+    → ((b : ℤ) → from ≤ℤ b → b ≤ℤ t → InTree date b) → InTree wide t ↔ InTree own t
+undated-since p q clocks dates day own wide date e f g is_own is_wide is_date clock from t later none all =
+    let without : wide ≡ Single (clock_parts p) q = is_wide ∙ ap (λ (s : StartParts). Single s q) e in
+    let days : date ≡ Single (date_parts p) one_day =
+    is_date ∙ ap (λ (s : StartParts). Single s day) f ∙ ap (λ (x : DurationParts). Single (date_parts p) x) g in
+    subst (λ (x : Tree). InTree wide t ↔ InTree x t) (sym is_own)
+    (subst (λ (x : Tree). InTree x t ↔ InStretches p q t) (sym without)
+    (as-undated-since p q clock t from later
+    (λ h. none (subst (λ (x : Tree). InTree x (from -ℤ pos 1)) (sym without) h))
+    (λ b low high. subst (λ (x : Tree). InTree x b) days (all b low high))))

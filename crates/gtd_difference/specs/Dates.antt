@@ -49,8 +49,9 @@ pub record IsKnown (last : ℤ) (state : BasicState) : Type 0 where
   pub within : state.until.0 ≤ℤ last
   pub held : (t : ℤ) → state.from.0 ≤ℤ t → t <ℤ state.until.0 → IsTrue state.holds ↔ InDomain state.domain t
 
--- Three basic domains are known so. The second, which is the first without its date, repeats after the period; and it has a
--- second exactly if the first has it, if the third has all seconds from which a stretch may last until then.
+-- Three basic domains are known so. The second, which is the first without its date, repeats after the period. It has a second
+-- exactly if the first has it, if the third has all seconds from which a stretch may last until then; or if the third has all
+-- seconds from an earlier one on, and the second has not the one before that.
 pub record IsKnownDated (last : ℤ) (state : DatedState) : Type 0 where
   pub own : IsKnown last state.own
   pub wide : IsKnown last state.wide
@@ -59,6 +60,9 @@ pub record IsKnownDated (last : ℤ) (state : DatedState) : Type 0 where
   pub some : pos 0 ≤ℤ state.longest
   pub short : state.longest ≤ℤ pos 3600
   pub same : (t : ℤ) → ((b : ℤ) → (t -ℤ state.longest) ≤ℤ b → b ≤ℤ t → InDomain state.date.domain b)
+      → InDomain state.wide.domain t ↔ InDomain state.own.domain t
+  pub since : (from t : ℤ) → from ≤ℤ t → (InDomain state.wide.domain (from -ℤ pos 1) → ⊥)
+      → ((b : ℤ) → from ≤ℤ b → b ≤ℤ t → InDomain state.date.domain b)
       → InDomain state.wide.domain t ↔ InDomain state.own.domain t
 
 -- the seconds without a date, or else all or none

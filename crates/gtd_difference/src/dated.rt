@@ -94,7 +94,7 @@ pub(crate) struct DatedState {
 }
 
 impl DatedState {
-    ghost use Rattle.std.specs.Prelude.{◌≡◌, ◌↔◌, ◌<ℤ◌, ◌≤ℤ◌, ℤ, IfSome};
+    ghost use Rattle.std.specs.Prelude.{◌≡◌, ◌↔◌, ◌<ℤ◌, ◌≤ℤ◌, ℤ, IfSome, IsTrue};
     ghost use Rattle.gtd_core.specs.Parts.{domain_tree};
     ghost use Rattle.gtd_core.specs.Seconds.{Within};
     ghost use Rattle.gtd_core.specs.Whole.{whole};
@@ -135,6 +135,31 @@ impl DatedState {
         })
     }
 
+    // Whether the date holds, and each stretch that has the second, or a later one while the date stays, is known to begin on
+    // it: it has held for as long as a stretch lasts, or no stretch has the second before.
+    fn is_begun_on_date(&mut self, at: Sec, days: Horizon, steps: &mut i64) -> bool
+        requires known { IsKnownDated (whole days).until self.old }
+        requires inside { Within (whole days) at.0 }
+        requires begun { self.old.date.from.0 ≤ℤ at.0 }
+        ensures own { self.new.own ≡ self.old.own }
+        ensures date { self.new.date ≡ self.old.date }
+        ensures known { IsKnownDated (whole days).until self.new }
+        ensures begun { IsTrue result → (t : ℤ) → at.0 ≤ℤ t → t <ℤ self.old.date.until.0
+            → InDomain self.new.wide.domain t ↔ InDomain self.old.own.domain t }
+    {
+        if !self.date.holds {
+            return false;
+        }
+        if self.date.from.0 <= at.0 - self.longest {
+            return true;
+        }
+        if at.0 <= days.from().0 {
+            return false;
+        }
+        self.wide.reach(Sec(at.0 - 1), days, steps);
+        !self.wide.holds
+    }
+
     /// Fixes the basic domain as it is at a second: as without its date, if each stretch that has the second or a later one
     /// begins on the date; and otherwise to hold, or not to hold. The first later second, or an earlier one, at which it is not
     /// so any more.
@@ -148,15 +173,14 @@ impl DatedState {
         ensures fixed { (t : ℤ) → at.0 ≤ℤ t → t <ℤ result.0 → InFixedDate self.new t ↔ InDomain self.old.own.domain t }
     {
         self.date.reach(at, days, steps);
-        let begun = at.0 - self.longest;
-        if self.date.holds && self.date.from.0 <= begun {
-            self.is_wide = true;
+        self.is_wide = self.is_begun_on_date(at, days, steps);
+        if self.is_wide {
             return self.date.until;
         }
-        self.is_wide = false;
         self.own.reach(at, days, steps);
         self.own.until
     }
+
     /// The stay, at a second, of the basic domain as it is fixed.
     pub(crate) fn stay(&mut self, at: Sec, days: Horizon, steps: &mut i64) -> Stay
         requires known { IsKnownDated (whole days).until self.old }

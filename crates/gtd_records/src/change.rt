@@ -15,7 +15,9 @@ use gtd_eval::days_to_look;
 use gtd_rows::DirectedElement;
 use std::alloc::{AllocError, Global};
 
-// How often the records are asked how long they stay as they are, before anything else is tried.
+// How often the records are asked how long they stay as they are, before anything else is tried, at least and at most.
+const LEAST_STAYS: usize = 3;
+
 const FEW_STAYS: usize = 16;
 
 // An element with n records is asked for MOST_STAYS / (n + 1) stays where its spans are short, before they are gone over.
@@ -96,6 +98,11 @@ fn has_short_spans(records: &Records, element: u64) -> bool {
     false
 }
 
+// How many stays are looked at first. Each goes over all records of the element, so that there are fewer where these are many.
+fn first_stays(records: &Records, element: u64) -> usize {
+    (MOST_STAYS / (records.places_of_element(element).len() + 1)).clamp(LEAST_STAYS, FEW_STAYS)
+}
+
 // How many stays are looked at next, before its spans. None where these are few, or where the records repeat weekly: to go over
 // them takes less.
 fn most_stays(records: &Records, at: DirectedElement, vehicle: u8) -> usize {
@@ -153,7 +160,8 @@ pub fn next_change(
         (NeverChanges (IsOpen records.now at.element at.direction vehicle) second.0 (whole horizon).until)
         (λ c. IsNextChange (IsOpen records.now at.element at.direction vehicle) second.0 (whole horizon).until c.0)) }
 {
-    if let Some(change) = change_by_stays(records, at, vehicle, second, horizon, FEW_STAYS) {
+    let first = first_stays(records, at.element);
+    if let Some(change) = change_by_stays(records, at, vehicle, second, horizon, first) {
         return Ok(change);
     }
     change_by_rows(alloc, records, at, vehicle, second, horizon)

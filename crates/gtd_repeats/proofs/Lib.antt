@@ -4,6 +4,7 @@ mod AnswerFacts
 mod BucketFacts
 mod EarlyFacts
 mod FindingFacts
+mod FinerFacts
 mod FirstFacts
 mod KinFacts
 mod LineFacts

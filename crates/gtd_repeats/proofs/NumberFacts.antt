@@ -23,7 +23,7 @@ use Rattle.gtd_repeats.specs.declared.alike.Kind.TheVariants as kind
 use Rattle.gtd_repeats.proofs.AlikeFacts.{likeness, of_text}
 use Rattle.gtd_repeats.proofs.FirstFacts.{same_first}
 
-one_way : (a b : Option Tree) (from until : ℤ) (xs ys : List Interval) → early_begin ≤ℤ from → until ≤ℤ late_end → HoldSame a b
+pub one_way : (a b : Option Tree) (from until : ℤ) (xs ys : List Interval) → early_begin ≤ℤ from → until ≤ℤ late_end → HoldSame a b
     → IsNormalFor (HoldsAt a) from until xs → IsNormalFor (HoldsAt b) from until ys → (t : ℤ) → Holds xs t → Holds ys t
 one_way a b from until xs ys begun ended same n m t h =
     let i = n.inside t h in
@@ -96,14 +96,14 @@ with_one_more : (count n : ℕ) (x : Interval) (xs : List Interval)
 with_one_more count n x xs = rw (add-one count) refl
 
 -- with the next of them
-pub with_next : (k n : ℕ) (x : Interval) (xs ys : List Interval) → k < 512 → ys ≡ x ∷ xs
-    → with_first (512 - k) n ys ≡ with_first (512 - (k + 1)) (with_interval n x) xs
-with_next k n x xs ys less e =
-    let left : 512 - k ≡ (512 - (k + 1)) + 1 = omega (arith, less) in
-    rw (e, left) (with_one_more (512 - (k + 1)) n x xs)
+pub with_next : (count k n : ℕ) (x : Interval) (xs ys : List Interval) → k < count → ys ≡ x ∷ xs
+    → with_first (count - k) n ys ≡ with_first (count - (k + 1)) (with_interval n x) xs
+with_next count k n x xs ys less e =
+    let left : count - k ≡ (count - (k + 1)) + 1 = omega (arith, less) in
+    rw (e, left) (with_one_more (count - (k + 1)) n x xs)
 
 -- a row without a domain
-whole_normal : (x : Interval) → x.from ≡ years_begin → x.until ≡ years_end
+pub whole_normal : (x : Interval) → x.from ≡ years_begin → x.until ≡ years_end
     → IsNormalFor (HoldsAt None) years_begin years_end (x ∷ [])
 whole_normal x e f = record {
   order = (omega (arith, ints, e, f), tt, tt);

@@ -1,6 +1,6 @@
 -- Numbers that rows with the same seconds share, and that few others have.
 use Rattle.std.specs.Prelude.{◌≡◌, ◌<◌, ◌+◌, ◌*◌, ◌%◌, ℕ, zero, suc, ℤ, pos, unsigned_abs}
-use Rattle.std.specs.Prelude.{List, [], ◌∷◌, length, get_or, Option, Some, None, MatchOption, ◌*ℤ◌, ◌+ℤ◌}
+use Rattle.std.specs.Prelude.{Bool, true, false, List, [], ◌∷◌, length, get_or, Option, Some, None, MatchOption, ◌*ℤ◌, ◌+ℤ◌}
 use Rattle.gtd_core.specs.Limits.{day_seconds, first_horizon_day, horizons_end, most_horizon_days}
 use Rattle.gtd_core.specs.Seconds.{Interval}
 use Rattle.gtd_core.specs.Trees.{Tree}
@@ -76,3 +76,33 @@ joint_number element first = (element % 4_294_967_291) * 65_536 + first % 65_536
 pub record AreJointNumbers (rows : List Restriction) (firsts numbers : List ℕ) : Type 0 where
   pub many : length numbers ≡ length rows
   pub each : (row : ℕ) → row < length rows → get_or numbers row 0 ≡ joint_number (row_at rows row).element (get_or firsts row 0)
+
+-- ---- finer numbers, of rows of which some with the same number are unlike
+
+-- a number by all intervals in which it holds between two seconds, or the first 262,144 of them
+abbrev pub IsLongNumber : ℤ → ℤ → Option Tree → ℕ → Type 0
+IsLongNumber from until domain number =
+    (xs : List Interval) × IsNormalFor (HoldsAt domain) from until xs × (number ≡ with_first 262_144 0 xs)
+
+-- a number and another
+abbrev pub joined : ℕ → ℕ → ℕ
+joined number more = (number % 4_294_967_291 * 31 + more % 4_294_967_291) % 4_294_967_291
+
+-- the number of a row whose number is shared by unlike rows, or by like ones alone
+abbrev pub IsFiner : ℤ → ℤ → Option Tree → Bool → ℕ → ℕ → Type 0
+IsFiner from until domain true number finer = (long : ℕ) × IsLongNumber from until domain long × (finer ≡ joined number long)
+IsFiner from until domain false number finer = finer ≡ number
+
+-- whether it is said of the bucket of a row that unlike rows are in it
+abbrev pub mark_of : List Bool → List ℕ → ℕ → Bool
+mark_of marks indices row = get_or marks (get_or indices row 0) false
+
+-- the finer number of a row, by such marks of the buckets in which the rows are by their numbers
+abbrev pub IsFinerOf : ℤ → ℤ → List Restriction → List Bool → List ℕ → List ℕ → ℕ → ℕ → Type 0
+IsFinerOf from until rows marks indices numbers row finer =
+    IsFiner from until (row_at rows row).domain (mark_of marks indices row) (get_or numbers row 0) finer
+
+-- that of each row
+pub record AreFiner (from until : ℤ) (rows : List Restriction) (marks : List Bool) (indices numbers finer : List ℕ) : Type 0 where
+  pub many : length finer ≡ length rows
+  pub each : (row : ℕ) → row < length rows → IsFinerOf from until rows marks indices numbers row (get_or finer row 0)

@@ -14,6 +14,7 @@ ghost use Rattle.gtd_repeats.specs.declared.alike.Kind.TheVariants as declared;
 use crate::alike::{Compared, Kind};
 use crate::answers::{Answer, first_answers};
 use crate::buckets::{Entry, entries_of};
+use crate::finer::{KnownTexts, finer_by_years};
 use crate::firsts::firsts_of;
 use crate::kin::{Grouped, element_buckets, kin_of, within_of};
 use crate::known::known_rows;
@@ -57,11 +58,19 @@ fn meanings_of(alloc: Global, rows: &[Record]) -> Result<(Vec<usize>, Vec<usize>
         kind: Kind::Text,
     };
     let texts = firsts_of(alloc, &by_text, numbers.as_slice(), known.as_slice())?;
+    let finer = finer_by_years(
+        alloc,
+        KnownTexts {
+            rows,
+            known: known.as_slice(),
+        },
+        numbers,
+    )?;
     let by_seconds = Compared {
         rows,
         kind: Kind::Seconds,
     };
-    let meanings = firsts_of(alloc, &by_seconds, numbers.as_slice(), texts.as_slice())?;
+    let meanings = firsts_of(alloc, &by_seconds, finer.as_slice(), texts.as_slice())?;
     Ok((texts, meanings))
 }
 

@@ -9,6 +9,7 @@ mod alike;
 mod answers;
 mod buckets;
 mod findings;
+mod finer;
 mod firsts;
 mod kin;
 mod known;

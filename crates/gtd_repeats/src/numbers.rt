@@ -19,18 +19,18 @@ use gtd_spans::SpanSource;
 use std::alloc::{AllocError, Global};
 
 /// The days of 2016-01-01 and of 2044-01-01.
-const FIRST_DAY: i64 = 16_801;
+pub(crate) const FIRST_DAY: i64 = 16_801;
 
-const END_DAY: i64 = 27_028;
+pub(crate) const END_DAY: i64 = 27_028;
 
-/// How many spans are looked at: those of more than a year, if there is one each day.
-const SPANS: usize = 512;
+/// How many spans are looked at after the first: with it those of more than a year, if there is one each day.
+const SPANS: usize = 511;
 
 /// Numbers are remainders by this prime.
-const PRIME: u64 = 4_294_967_291;
+pub(crate) const PRIME: u64 = 4_294_967_291;
 
-// The number with a span more.
-fn with_span(number: u64, span: Span) -> u64
+/// The number with a span more.
+pub(crate) fn with_span(number: u64, span: Span) -> u64
     requires small { number < 4_294_967_291 }
     ensures value { result ≡ with_interval number span }
     ensures small { result < 4_294_967_291 }
@@ -40,13 +40,13 @@ fn with_span(number: u64, span: Span) -> u64
     (number * 31 + from * 7 + until) % PRIME
 }
 
-// The number with the next spans of a cursor, of which one was taken.
-fn with_next(cursor: &mut Cursor, number: u64) -> u64
+/// The number with the next spans of a cursor, at most so many.
+pub(crate) fn with_next(cursor: &mut Cursor, number: u64, count: usize) -> u64
     requires small { number < 4_294_967_291 }
-    ensures value { result ≡ with_first 511 number (cursor_list cursor.old) }
+    ensures value { result ≡ with_first count number (cursor_list cursor.old) }
 {
     let mut joined = number;
-    for _ in 1..SPANS {
+    for _ in 0..count {
         let Some(span) = cursor.next() else {
             return joined;
         };
@@ -61,7 +61,7 @@ fn number_in(alloc: Global, domain: &Domain, days: Horizon) -> Result<Option<u64
 {
     let mut cursor = Cursor::open(alloc, domain, days)?;
     match cursor.next() {
-        Some(span) => Ok(Some(with_next(&mut cursor, with_span(0, span)))),
+        Some(span) => Ok(Some(with_next(&mut cursor, with_span(0, span), SPANS))),
         None => Ok(None),
     }
 }

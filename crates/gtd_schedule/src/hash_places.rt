@@ -9,7 +9,7 @@ const MOST_CURSORS: usize = 1_024;
 const MOST_NODES: u64 = 64;
 
 /// For how many spans the kept cursors have room together, at most.
-const MOST_SPANS: u64 = 65_536;
+const MOST_SPANS: u64 = 81_920;
 
 /// For how many spans they have room together in a file of few elements.
 const FEW_SPANS: u64 = 16_384;

@@ -74,7 +74,7 @@ impl Report for Schedule {
 /// out; no list of spans is kept. Elements that rows with the same domains close share a cursor, which begins again for each
 /// of them. At most 1,024 cursors are kept for that, of at most 64 nodes each, and beside them the last one that is not. A
 /// cursor keeps the spans of each period after which its rows repeat, at most 4,096, and as many that came before these; those
-/// that are shared have room for 65,536 spans in all. Before the call, the failures of both devices must be below `u64::MAX`.
+/// that are shared have room for 81,920 spans in all. Before the call, the failures of both devices must be below `u64::MAX`.
 ///
 /// ```
 /// let file = b"element,direction,vehicle,domain\n17,negative,11,\n";

@@ -17,3 +17,6 @@ returns-in-Join-clause-stays t c =
     rw (← c.deref_mut.ensures.value) c.fixed_stay-second.ensures.stays in
     rw c.in-Join.is (joined_stays c.in-Join.op (InFixed both.0) (InFixed both.1) at end
     c.fixed_stay-first.result c.fixed_stay-second.result c.joined.result l r c.joined.ensures.joined)
+
+pub returns-in-Dated-clause-fixed : goal.returns-in-Dated-clause-fixed
+returns-in-Dated-clause-fixed t c = rw c.in-Dated.is c.stay.ensures.fixed

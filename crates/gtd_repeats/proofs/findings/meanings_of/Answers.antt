@@ -6,6 +6,6 @@ pub firsts_of-requires-clause-numbers : goal.firsts_of-requires-clause-numbers
 firsts_of-requires-clause-numbers c =
     rw c.as_slice-2.ensures.value (share_text c.args.rows.now c.in_ok-numbers.numbers.items c.in_ok-numbers.ensures.numbers)
 
-pub firsts_of-requires-2-clause-numbers : goal.firsts_of-requires-2-clause-numbers
-firsts_of-requires-2-clause-numbers c =
-    rw c.as_slice-4.ensures.value (share_seconds c.args.rows.now c.in_ok-numbers.numbers.items c.in_ok-numbers.ensures.numbers)
+pub finer_by_years-requires-clause-shares : goal.finer_by_years-requires-clause-shares
+finer_by_years-requires-clause-shares c =
+    share_seconds c.args.rows.now c.in_ok-numbers.numbers.items c.in_ok-numbers.ensures.numbers

@@ -12,6 +12,6 @@ loop-preserved c =
       value =
           c.loop.invariant.value
           ∙ rw c.with_span-joined.ensures.value
-          (with_next c.loop.counter c.loop.joined c.in-Some.span (cursor_list c.next.new.self) (cursor_list c.loop.cursor)
+          (with_next c.args.count c.loop.counter c.loop.joined c.in-Some.span (cursor_list c.next.new.self) (cursor_list c.loop.cursor)
           (omega (arith, left)) c.in-Some.ensures.takes);
     }

@@ -7,5 +7,6 @@ use Rattle.gtd_repeats.proofs.numbers.with_next.Given as goal
 abbrev pub invariant-loop : goal.invariant-loop
 invariant-loop l = record {
   small : l.joined < 4294967291;
-  value : with_first 511 l.fn.number (cursor_list l.fn.cursor) ≡ with_first (512 - l.counter) l.joined (cursor_list l.cursor);
+  value : with_first l.fn.count l.fn.number (cursor_list l.fn.cursor)
+      ≡ with_first (l.fn.count - l.counter) l.joined (cursor_list l.cursor);
 }

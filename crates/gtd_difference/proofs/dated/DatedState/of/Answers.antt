@@ -4,7 +4,7 @@ use Rattle.std.proofs.lemmas.Int.{ints}
 use Rattle.gtd_core.specs.Parts.{domain_tree, duration_parts, start_parts}
 use Rattle.gtd_core.specs.declared.domain.Domain.{Domain}
 use Rattle.gtd_eval.specs.Periods.{AllRepeat, period_seconds}
-use Rattle.gtd_difference.proofs.Dates.{undated}
+use Rattle.gtd_difference.proofs.Dates.{undated, undated-since}
 use Rattle.gtd_difference.proofs.dated.DatedState.of.Goals as goal
 
 pub returns-clause-known : goal.returns-clause-known
@@ -28,4 +28,7 @@ returns-clause-known c =
       same = undated p q (start_parts c.in_ok-clock_start.field-0) (start_parts c.in_ok-date_start.field-0)
           (duration_parts c.in_ok-a_day.field-0) _ _ _ _ c.in_ok-clock_start.ensures.parts c.in_ok-date_start.ensures.parts
           c.in_ok-a_day.ensures.parts own wide date (longest ∙ value) (c.if-not-begins_often.ensures.clock refl);
+      since = undated-since p q (start_parts c.in_ok-clock_start.field-0) (start_parts c.in_ok-date_start.field-0)
+          (duration_parts c.in_ok-a_day.field-0) _ _ _ c.in_ok-clock_start.ensures.parts c.in_ok-date_start.ensures.parts
+          c.in_ok-a_day.ensures.parts own wide date (c.if-not-begins_often.ensures.clock refl);
     }
