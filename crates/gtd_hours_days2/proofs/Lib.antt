@@ -6,6 +6,5 @@ pub mod PartFacts
 pub mod HolidayFacts
 pub mod GatherFacts
 pub mod ListedFacts
-pub mod KindFacts
 pub mod LowerFacts
 pub mod EasterFacts

@@ -14,6 +14,7 @@ use Rattle.gtd_hours.specs.Yearly.{IsOfDays}
 use Rattle.gtd_hours.specs.declared.hours.YearlyDays.{YearlyDays}
 use Rattle.gtd_hours.specs.declared.hours.Years.{Years}
 use Rattle.gtd_hours_holidays.specs.KnownYears.{IsOfYears}
+use Rattle.gtd_hours_holidays.specs.declared.known_years.KnownYears.{KnownYears}
 use Rattle.gtd_hours2.specs.Opening.{IsInWeeks, are_many, last_known}
 use Rattle.gtd_hours2.specs.Days.{is_easter}
 use Rattle.gtd_hours2.specs.declared.values.RulePart.TheVariants as part
@@ -66,6 +67,15 @@ years-lowered known first step many x e holds =
     λ clocks n f fields.
     subst (λ (b : Bool). LoweredHolds known x n f
     ↔ AreInYears first (if b then last_known (years_of known.years) else 2799) step f) (sym e) (holds n f)
+
+-- the last of the known years is that of these
+pub known-years : (known : Known) (x : Lowered) (years : KnownYears) (first step : ℕ) → known.years ≡ Some years
+    → ((n : ℤ) (f : DayFields) → LoweredHolds known x n f ↔ AreInYears first years.last step f)
+    → (n : ℤ) (f : DayFields) → LoweredHolds known x n f ↔ AreInYears first (last_known (years_of known.years)) step f
+known-years known x years first step e holds =
+    λ n f.
+    subst (λ (o : Option KnownYears). LoweredHolds known x n f
+    ↔ AreInYears first (last_known (years_of o)) step f) (sym e) (holds n f)
 
 pub iff_trans : {A B C : Type 0} → (A ↔ B) → (B ↔ C) → A ↔ C
 iff_trans f g = ((λ a. g.0 (f.0 a)), (λ c. f.1 (g.1 c)))

@@ -1,7 +1,6 @@
 pub mod Dated
 pub mod Ends
 pub mod InRange
-pub mod Kinds
 pub mod Known
 pub mod ListedFaults
 pub mod Lowered

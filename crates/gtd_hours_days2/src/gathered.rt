@@ -14,14 +14,18 @@ use std::alloc::{AllocError, Global};
 
 /// Selectors before the listed days, the listed days, and selectors after them.
 #[derive(Drop)]
-pub(crate) struct Gathered {
-    pub(crate) front: Vec<Selector>,
-    pub(crate) listed: Vec<Listed>,
-    pub(crate) back: Vec<Selector>,
+pub struct Gathered {
+    /// Selectors before the listed days.
+    pub front: Vec<Selector>,
+    /// The listed days.
+    pub listed: Vec<Listed>,
+    /// Selectors after them.
+    pub back: Vec<Selector>,
 }
 
 impl Gathered {
-    pub(crate) fn new(alloc: Global) -> Gathered
+    /// None yet.
+    pub fn new(alloc: Global) -> Gathered
         ensures none { (known : Known) (n : ℤ) (f : DayFields) → GatheredHolds known result n f → ⊥ }
     {
         Gathered {
@@ -74,7 +78,7 @@ fn with_listed(gathered: Gathered, listed: Listed) -> Result<Gathered, AllocErro
 }
 
 /// One part more.
-pub(crate) fn with_lowered(gathered: Gathered, lowered: Lowered) -> Result<Gathered, AllocError>
+pub fn with_lowered(gathered: Gathered, lowered: Lowered) -> Result<Gathered, AllocError>
     ensures { IfOk result (λ then. (known : Known) (n : ℤ) (f : DayFields) → GatheredHolds known then n f
         ↔ (GatheredHolds known gathered n f ⊎ LoweredHolds known lowered n f)) }
 {

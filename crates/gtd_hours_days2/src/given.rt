@@ -42,7 +42,7 @@ fn are_days_given(first: YearlyDay, last: YearlyDay, known: &Known) -> bool
 }
 
 /// Whether what a part needs is known.
-pub(crate) fn is_given(part: RulePart, known: &Known) -> bool
+pub fn is_given(part: RulePart, known: &Known) -> bool
     ensures { result ≡ is_given known.now part }
 {
     match part {

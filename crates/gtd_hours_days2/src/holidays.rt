@@ -59,7 +59,7 @@ fn school(offset: DayOffset) -> Option<Lowered>
 }
 
 /// Holidays.
-pub(crate) fn holidays(kind: HolidayKind, offset: DayOffset) -> Option<Lowered>
+pub fn holidays(kind: HolidayKind, offset: DayOffset) -> Option<Lowered>
     ensures kept { IfSome result (IsLoweredAlways (part.Holidays kind offset)) }
     ensures accepted { IsSome result ↔ IsPartInRange (part.Holidays kind offset) }
 {

@@ -1,28 +1,30 @@
-//! The days of a rule, as selectors of plain hours.
+//! Parts of rules, as selectors of plain hours.
 //!
-//! `plain_kinds` answers the kinds of selectors of a rule, which match exactly the days that the rule matches with a table of
-//! holidays and the years in which holidays and Easter are known.
+//! A part is lowered to what holds exactly on its days, with a table of holidays and the years in which holidays and Easter are
+//! known, and lowered parts are gathered to selectors.
 #![tactic(auto)]
 
-pub use fault::DaysFault;
-pub use kinds::plain_kinds;
+pub use gathered::{Gathered, with_lowered};
+pub use given::is_given;
+pub use holidays::holidays;
 pub use known::Known;
+pub use lowered::Lowered;
+pub use month_days::yearly_days;
+pub use nth::nth;
+pub use selectors::listed_selectors;
+pub use simple::{months, weekdays};
+pub use weeks::weeks;
+pub use years::years;
 
-mod dated;
 mod dates;
-mod fault;
 mod gathered;
-mod gathering;
 mod given;
 mod holidays;
-mod kinds;
 mod known;
-mod listing;
 mod lowered;
 mod month_days;
 mod moving;
 mod nth;
-mod parts;
 mod places;
 mod selectors;
 mod simple;

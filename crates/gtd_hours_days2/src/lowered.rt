@@ -5,7 +5,7 @@ use gtd_hours_days::Listed;
 
 /// What a part is among the selectors of plain hours.
 #[derive(Clone, Copy)]
-pub(crate) enum Lowered {
+pub enum Lowered {
     /// Nothing: it holds on no day.
     Nothing,
     /// A selector.

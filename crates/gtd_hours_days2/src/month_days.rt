@@ -84,7 +84,7 @@ fn days_from_easter(first: YearlyDay, one: DayOffset, last: YearlyDay) -> Option
 }
 
 /// Days of each year.
-pub(crate) fn yearly_days(first: YearlyDay, last: YearlyDay) -> Option<Lowered>
+pub fn yearly_days(first: YearlyDay, last: YearlyDay) -> Option<Lowered>
     ensures kept { IfSome result (IsLoweredAlways (part.Days first last)) }
     ensures accepted { IsSome result ↔ IsPartInRange (part.Days first last) }
 {

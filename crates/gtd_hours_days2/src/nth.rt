@@ -49,7 +49,7 @@ fn by_offset(place: WeekdayPlace, is_back: bool, offset: DayOffset) -> Option<Se
 }
 
 /// Such a weekday of the month, or the day so many days after or before it.
-pub(crate) fn nth(weekday: u8, number: u8, is_back: bool, offset: DayOffset) -> Option<Lowered>
+pub fn nth(weekday: u8, number: u8, is_back: bool, offset: DayOffset) -> Option<Lowered>
     ensures kept { IfSome result (IsLoweredAlways (part.NthWeekday weekday number is_back offset)) }
     ensures accepted { IsSome result ↔ IsPartInRange (part.NthWeekday weekday number is_back offset) }
 {

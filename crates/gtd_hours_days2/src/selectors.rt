@@ -88,7 +88,7 @@ fn written_selectors(
 /// The days on which one of the listed selectors holds, as selectors: one for each group of days that come in each of the years,
 /// if that takes fewer basic domains, and a range of dates for each other run of consecutive days. The answer is `Uncovered`
 /// exactly if the table does not say all holidays of the years for some of them, `NoMemory` only if memory was refused.
-pub(crate) fn listed_selectors(
+pub fn listed_selectors(
     alloc: Global,
     holidays: &Holidays,
     years: KnownYears,

@@ -9,7 +9,7 @@ use crate::lowered::Lowered;
 use gtd_hours::{Months, Selector, Weekdays};
 
 /// Months, which may go over New Year.
-pub(crate) fn months(first: u8, last: u8) -> Option<Lowered>
+pub fn months(first: u8, last: u8) -> Option<Lowered>
     ensures kept { IfSome result (IsLoweredAlways (part.Months first last)) }
     ensures accepted { IsSome result ↔ IsPartInRange (part.Months first last) }
 {
@@ -20,7 +20,7 @@ pub(crate) fn months(first: u8, last: u8) -> Option<Lowered>
 }
 
 /// Weekdays, which may go over Saturday.
-pub(crate) fn weekdays(first: u8, last: u8) -> Option<Lowered>
+pub fn weekdays(first: u8, last: u8) -> Option<Lowered>
     ensures kept { IfSome result (IsLoweredAlways (part.Weekdays first last)) }
     ensures accepted { IsSome result ↔ IsPartInRange (part.Weekdays first last) }
 {

@@ -76,7 +76,7 @@ fn years_to(known: &Known, first: u16, last: u16, step: u16) -> Option<Lowered>
 }
 
 /// Years.
-pub(crate) fn years(known: &Known, first: u16, last: Option<u16>, step: u16) -> Option<Lowered>
+pub fn years(known: &Known, first: u16, last: Option<u16>, step: u16) -> Option<Lowered>
     ensures kept { IfSome result (IsLowered known.now (part.Years first last step)) }
     ensures accepted { IsSome result ↔ IsPartInRange (part.Years first last step) }
 {

@@ -8,11 +8,13 @@ use Rattle.gtd_hours_days2.proofs.nth.by_offset.Goals as goal
 pub returns-then-is_unmoved-clause-kept : goal.returns-then-is_unmoved-clause-kept
 returns-then-is_unmoved-clause-kept c = λ n f fields.
     iff_trans (c.unmoved.ensures n f)
-    (unmoved-holds c.args.place.weekday c.args.place.number c.args.is_back c.args.offset n f fields (c.is_unmoved.ensures.0 c.if-is_unmoved.true))
+    (unmoved-holds c.args.place.weekday c.args.place.number c.args.is_back c.args.offset n f fields
+    (c.is_unmoved.ensures.0 c.if-is_unmoved.true))
 
 pub returns-then-is_unmoved-clause-accepted : goal.returns-then-is_unmoved-clause-accepted
 returns-then-is_unmoved-clause-accepted c =
-    ((λ h. (c.args.place.in_range, (λ low. absurd (no_days c.args.offset.days (c.is_unmoved.ensures.0 c.if-is_unmoved.true) low)))), (λ h. refl))
+    let none_so = no_days c.args.offset.days (c.is_unmoved.ensures.0 c.if-is_unmoved.true) in
+    ((λ h. (c.args.place.in_range, (λ low. absurd (none_so low)))), (λ h. refl))
 
 pub returns-clause-kept : goal.returns-clause-kept
 returns-clause-kept c =

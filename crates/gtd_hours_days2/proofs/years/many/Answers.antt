@@ -1,4 +1,5 @@
 -- Without known years the last of them is 0, before all years.
+use Rattle.gtd_hours_days2.proofs.LowerFacts.{known-years}
 use Rattle.gtd_hours_days2.proofs.PartFacts.{none-from}
 use Rattle.gtd_hours_days2.proofs.years.many.Goals as goal
 
@@ -8,4 +9,6 @@ returns-in-None c =
     (λ n f. ((λ h. absurd h), (λ h. none-from c.args.whole.first c.args.whole.step h.0 c.args.whole.in_range.0 h.1)))
 
 pub returns-in-Some : goal.returns-in-Some
-returns-in-Some c = rw c.in-Some.is c.up_to.ensures
+returns-in-Some c =
+    known-years c.args.known.now c.up_to.result c.in-Some.years c.args.whole.first c.args.whole.step c.in-Some.is
+    c.up_to.ensures
