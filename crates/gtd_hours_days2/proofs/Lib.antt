@@ -1,10 +1,3 @@
--- Lemmas on the ends of ranges.
-pub mod EndFacts
-pub mod OrderFacts
-pub mod RangeFacts
+-- Lemmas on parts.
 pub mod PartFacts
-pub mod HolidayFacts
-pub mod GatherFacts
-pub mod ListedFacts
 pub mod LowerFacts
-pub mod EasterFacts

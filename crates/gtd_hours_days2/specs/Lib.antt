@@ -2,7 +2,6 @@ pub mod Dated
 pub mod Ends
 pub mod InRange
 pub mod Known
-pub mod ListedFaults
 pub mod Lowered
 pub mod Nth
 pub use Rattle.gtd_calendar.specs.Calendar

@@ -50,7 +50,7 @@ fn back(first: u8, last: u8, step: u16) -> Option<Lowered>
 }
 
 /// Weeks.
-pub fn weeks(first: u8, last: u8, step: u16) -> Option<Lowered>
+pub fn year_weeks(first: u8, last: u8, step: u16) -> Option<Lowered>
     ensures kept { IfSome result (IsLoweredAlways (part.Weeks first last step)) }
     ensures accepted { IsSome result ↔ IsPartInRange (part.Weeks first last step) }
 {
