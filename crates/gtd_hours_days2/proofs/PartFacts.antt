@@ -1,6 +1,6 @@
 -- Weeks that go back.
-use Rattle.std.proofs.Common.{◌≡◌, ◌↔◌, ◌∙◌, ◌⊎◌, inl, inr, sym, ap, subst, refl, arith, ℕ, ◌+◌, ◌-◌, ◌/◌, ◌%◌, ◌<◌, ◌≤◌}
-use Rattle.std.proofs.Common.{Bool, true, false, if◌then◌else◌, ℤ, pos, ◌+ℤ◌, ◌-ℤ◌}
+use Rattle.std.proofs.Common.{◌≡◌, ◌↔◌, ◌⊎◌, inl, inr, arith, ℕ, ◌+◌, ◌-◌, ◌/◌, ◌%◌, ◌<◌, ◌≤◌}
+use Rattle.std.proofs.Common.{ℤ}
 use Rattle.gtd_calendar.specs.Calendar.{AreFieldsOf, year_length}
 use Rattle.gtd_calendar.specs.declared.day.DayFields.{DayFields}
 use Rattle.gtd_calendar.specs.facts.YearDays.{year_length-few}

@@ -1,5 +1,5 @@
 -- Which parts plain hours have.
-use Rattle.std.specs.Prelude.{◌≡◌, ◌⊎◌, ◌≤◌, ℕ, nat_le, Bool, true, false, Option, Some, None, List, [], ◌∷◌, ⊤}
+use Rattle.std.specs.Prelude.{◌≡◌, ◌⊎◌, ◌≤◌, ℕ, nat_le, Bool, true, false, Option, Some, None, ⊤}
 use Rattle.gtd_hours.specs.Ranges.{IsMonth, IsWeekday, IsWeeks, IsYears}
 use Rattle.gtd_hours2.specs.Days.{MakeRange, is_easter}
 use Rattle.gtd_hours2.specs.declared.values.DayOffset.{DayOffset}

@@ -1,5 +1,5 @@
 -- What a table of holidays and years give to rules.
-use Rattle.std.specs.Prelude.{ℕ, ℤ, Bool, true, if◌then◌else◌, ◌&&◌, ◌||◌, is_some, List, [], Option, Some, None}
+use Rattle.std.specs.Prelude.{ℕ, Bool, true, if◌then◌else◌, ◌&&◌, ◌||◌, is_some, List, [], Option, Some, None}
 use Rattle.gtd_hours2.specs.Opening.{Clocks, Given, are_many}
 use Rattle.gtd_hours2.specs.Days.{is_easter}
 use Rattle.gtd_hours2.specs.declared.values.HolidayKind.{HolidayKind}
