@@ -1,0 +1,3 @@
+-- Lemmas on parts.
+pub mod PartFacts
+pub mod LowerFacts

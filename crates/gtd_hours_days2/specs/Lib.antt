@@ -1,0 +1,9 @@
+pub mod Dated
+pub mod Ends
+pub mod InRange
+pub mod Known
+pub mod Lowered
+pub mod Nth
+pub use Rattle.gtd_calendar.specs.Calendar
+pub use Rattle.gtd_calendar.specs.declared.day.DayFields
+pub use Rattle.gtd_hours_holidays.specs.Table
