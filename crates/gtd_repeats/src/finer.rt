@@ -117,7 +117,7 @@ fn see_row(alloc: Global, rows: &[Record], seen: &mut Seen, row: usize) -> Resul
     Ok(())
 }
 
-// What is seen of the rows of each bucket. Of rows with one text the first is looked at.
+// What is seen of the rows of each bucket. Only the first of the rows with one text is looked at.
 fn seen_in(
     alloc: Global,
     texts: KnownTexts<'_>,
@@ -142,7 +142,7 @@ fn seen_in(
     Ok(seen)
 }
 
-// Of each bucket whether unlike rows are in it.
+// For each bucket, whether unlike rows are in it.
 fn marks_in(
     alloc: Global,
     texts: KnownTexts<'_>,
@@ -157,7 +157,7 @@ fn marks_in(
     Ok(marks)
 }
 
-// Of each row whether unlike rows were in its bucket.
+// For each row, whether unlike rows were in its bucket.
 fn marks_of_rows(
     alloc: Global,
     marks: &[bool],
